@@ -1,0 +1,5 @@
+pub mod Fields
+pub mod Pages
+pub mod Refusals
+pub mod Image
+pub mod Plain

@@ -1,0 +1,38 @@
+-- The pages of a segment, of 4,096 bytes each, and their bytes.
+use Rattle.std.specs.Prelude.{ℕ, ◌+◌, ◌-◌, ◌*◌, ◌/◌, ◌%◌, ◌==◌, ◌&&◌, Bool, cond, not, ltb, List, ◌++◌, take, drop, replicate}
+use Rattle.elf_image.specs.declared.header.ProgramHeader.{ProgramHeader}
+
+-- a header of type PT_LOAD (1) with a size is a segment
+abbrev pub is_segment : ProgramHeader → Bool
+is_segment h = h.kind == 1 && not (h.file_size == 0 && h.memory_size == 0)
+
+-- whether a set of permissions has this one: X 1, W 2, R 4
+abbrev pub has : ℕ → ℕ → Bool
+has flags bit = (flags / bit % 2) == 1
+
+-- the number of the first page, of the page after the last, and of the page after the last file page
+abbrev pub first_page : ProgramHeader → ℕ
+first_page h = h.address / 4096
+
+abbrev pub end_page : ProgramHeader → ℕ
+end_page h = (h.address + h.memory_size + 4095) / 4096
+
+abbrev pub file_end_page : ProgramHeader → ℕ
+file_end_page h = (h.address + h.file_size + 4095) / 4096
+
+-- n bytes of a file from a place on; past its end they are 0
+abbrev pub window : List ℕ → ℕ → ℕ → List ℕ
+window file from n = take n (drop from file ++ replicate n 0)
+
+-- the first k bytes, and zeros in the place of the others up to n
+abbrev pub zeroed_from : ℕ → ℕ → List ℕ → List ℕ
+zeroed_from k n bytes = take k bytes ++ replicate (n - k) 0
+
+-- The bytes of the file pages are those of the file, where the address and the offset have one remainder. Where the
+-- memory size is the greater one and the segment can be written, the bytes from the end of the file size on are 0. (own
+-- for a segment that can't be written, and for one without bytes in the file)
+abbrev pub page_bytes : List ℕ → ProgramHeader → List ℕ
+page_bytes file h =
+    let n = 4096 * (file_end_page h - first_page h) in
+    let bytes = window file (h.offset - h.address % 4096) n in
+    cond (ltb h.file_size h.memory_size && has h.flags 2) (zeroed_from (h.address % 4096 + h.file_size) n bytes) bytes

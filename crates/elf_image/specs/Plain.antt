@@ -1,0 +1,57 @@
+-- The plain form: the one file layout that the reader takes so far. (own)
+use Rattle.std.specs.Prelude.{◌≡◌, ℕ, ◌+◌, ◌==◌, ◌&&◌, Bool, true, not, leb, ltb, List, [], ◌∷◌, length, take, drop, Option, Some, None, Result, Ok, Err, slice_index}
+use Rattle.elf_image.specs.declared.header.ProgramHeader.{ProgramHeader}
+use Rattle.elf_image.specs.declared.image.Segment.{Segment}
+use Rattle.elf_image.specs.declared.image.Image.{Image}
+use Rattle.elf_image.specs.declared.refusal.Room.{Room}
+use Rattle.elf_image.specs.declared.refusal.Refusal.{Refusal}
+use Rattle.elf_image.specs.declared.refusal.Refusal.TheVariants.{Short, Magic, NotYet}
+use Rattle.elf_image.specs.declared.refusal.ImageError.{ImageError}
+use Rattle.elf_image.specs.declared.refusal.ImageError.TheVariants.{Refused, Memory}
+use Rattle.elf_image.specs.Fields.{has_magic, file_kind, machine, entry, table_offset, header_size, header_count, header_at}
+use Rattle.elf_image.specs.Refusals.{first}
+use Rattle.elf_image.specs.Image.{image_of}
+
+-- an ELF32 executable for the i386 whose two program headers stand at 52, its entry being the first byte of its code
+abbrev pub has_plain_header : List ℕ → Bool
+has_plain_header file =
+    slice_index file 4 == 1 && slice_index file 5 == 1 && slice_index file 6 == 1 && file_kind file == 2 && machine file == 3
+    && entry file == 0x08049000 && table_offset file == 52 && header_size file == 32 && header_count file == 2
+
+-- one page of code at most
+abbrev pub is_plain_text : ProgramHeader → Bool
+is_plain_text h =
+    h.kind == 1 && h.offset == 0x1000 && h.address == 0x08049000 && h.file_size == h.memory_size && leb 1 h.file_size && leb h.file_size 4096 && h.flags == 5
+
+-- one page of zeros that can be written
+abbrev pub is_plain_room : ProgramHeader → Bool
+is_plain_room h =
+    h.kind == 1 && h.offset == 0x2000 && h.address == 0x0804A000 && h.file_size == 0 && h.memory_size == 4096 && h.flags == 6
+
+-- two pages in all, a header's and the code's
+unfoldable pub is_plain : List ℕ → Bool
+is_plain file = length file == 8192 && has_plain_header file && is_plain_text (header_at file 52) && is_plain_room (header_at file 84)
+
+-- the image of a plain file: its code with the rest of that page, and a page of zeros
+abbrev pub text_segment : List ℕ → Segment
+text_segment file = record { start = 0x08049000; size = 4096; perm = record { 0 = 5 }; bytes = take 4096 (drop 4096 file) }
+
+abbrev pub room_segment : Segment
+room_segment = record { start = 0x0804A000; size = 4096; perm = record { 0 = 6 }; bytes = [] }
+
+abbrev pub plain_image : List ℕ → Image
+plain_image file = record { segments = text_segment file ∷ room_segment ∷ []; entry = 0x08049000 }
+
+-- the first of the refusals of a reader that takes the plain form alone
+abbrev pub plain_tests : List ℕ → List (Bool × Refusal)
+plain_tests file = (ltb (length file) 52, Short) ∷ (not (has_magic file), Magic) ∷ (not (is_plain file), NotYet) ∷ []
+
+-- the image is the definition's and plain, and each refusal is the first that holds
+abbrev pub ReadsPlain : List ℕ → Room → Result Image ImageError → Type 0
+ReadsPlain file room (Ok image) = (first (plain_tests file) ≡ None) × (image_of file room ≡ Ok image) × (image ≡ plain_image file)
+ReadsPlain file room (Err (Refused r)) = first (plain_tests file) ≡ Some r
+ReadsPlain file room (Err Memory) = Unit {0}
+
+-- a plain file is accepted in either room
+abbrev pub PlainIsAccepted : Type 0
+PlainIsAccepted = (file : List ℕ) (room : Room) → has_magic file ≡ true → is_plain file ≡ true → image_of file room ≡ Ok (plain_image file)

@@ -1,0 +1,15 @@
+//! Executable images: which files are accepted, the first cause of a refusal, and what stands at each address
+//! (System V gABI, chapters 4 and 5; Intel386 supplement).
+#![tactic(auto)]
+
+mod header;
+mod image;
+mod perm;
+mod reader;
+mod refusal;
+
+pub use header::ProgramHeader;
+pub use image::{Image, Segment, SegmentList};
+pub use perm::Perm;
+pub use reader::read_image;
+pub use refusal::{ImageError, Refusal, Room};

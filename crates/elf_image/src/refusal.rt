@@ -1,0 +1,55 @@
+// Why a file is turned away.
+
+ghost use Rattle.std.specs.Prelude.{◌≡◌};
+
+use std::alloc::AllocError;
+
+/// Where a file's pages may lie: the room of files that are rewritten, or the wider room of files that are run.
+#[derive(Clone, Copy, Debug, PartialEq, Eq)]
+pub enum Room {
+    Source,
+    Any,
+}
+
+/// The causes of a refusal, in the order in which they are judged; `NotYet` is a file that is accepted, but of a form
+/// that is not rewritten yet.
+#[derive(Clone, Copy, Debug, PartialEq, Eq)]
+pub enum Refusal {
+    Short,
+    Magic,
+    Class,
+    Order,
+    Version,
+    Kind,
+    Machine,
+    HeaderSize,
+    HeaderTable,
+    Dynamic,
+    SegmentFile,
+    SegmentSize,
+    SegmentAlign,
+    Permission,
+    Range,
+    SharedPage,
+    Entry,
+    CodeSpan,
+    ImageSize,
+    NotYet,
+}
+
+/// A file is refused, or memory is wanting.
+#[derive(Debug, Drop)]
+pub enum ImageError {
+    Refused(Refusal),
+    Memory,
+}
+
+impl From<AllocError> for ImageError {
+    ghost use Rattle.elf_image.specs.declared.refusal.ImageError.TheVariants.{Memory};
+
+    ghost from_gives = { λ _ e. e ≡ Memory };
+
+    fn from(_: AllocError) -> Self {
+        ImageError::Memory
+    }
+}

@@ -1,0 +1,12 @@
+//! Bytes and flags that are known or unspecified, words of four bytes, lists of bytes, and the answers of the outside.
+#![tactic(auto)]
+
+mod answer;
+mod byte;
+mod list;
+mod word;
+
+pub use answer::Answer;
+pub use byte::Byte;
+pub use list::ByteList;
+pub use word::{Flags, Word, known, word_of};
