@@ -1,0 +1,5 @@
+pub mod Spells
+pub mod Memory
+pub mod SystemCall
+pub mod Step
+pub mod Run

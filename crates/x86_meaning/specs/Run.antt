@@ -1,0 +1,66 @@
+-- Runs of programs. The instructions and the memory that a run begins with are two things.
+use Rattle.std.specs.Prelude.{◌≡◌, ℕ, ◌+◌, ◌%◌, ◌^◌, ◌<◌, ◌≤◌, List, [], ◌∷◌, length, All, None}
+use Rattle.x86_values.specs.declared.answer.Answer.{Answer}
+use Rattle.x86_values.specs.declared.answer.Answer.TheVariants.{Take, Fail}
+use Rattle.x86_values.specs.declared.word.Flags.{Flags}
+use Rattle.x86_values.specs.Words.{word_of}
+use Rattle.traces.specs.Trace.{Behaviour, run}
+use Rattle.traces.specs.Machines.{turned}
+use Rattle.elf_image.specs.declared.image.Image.{Image}
+use Rattle.elf_image.specs.Image.{code_bytes}
+use Rattle.x86_meaning.specs.declared.state.Cpu.{Cpu}
+use Rattle.x86_meaning.specs.Spells.{front}
+use Rattle.x86_meaning.specs.Memory.{Memory, memory_of, with_stack}
+use Rattle.x86_meaning.specs.SystemCall.{Environment}
+use Rattle.x86_meaning.specs.Step.{State, Code, next}
+
+-- what stands at each address of an image: the instruction that a front of the executable bytes from there spells
+unfoldable pub code_of : Image → Code
+code_of image a = front (code_bytes image a 15)
+
+abbrev pub no_flags : Flags
+no_flags = record { cf = None; pf = None; zf = None; sf = None; of = None }
+
+-- the processor at process entry (psABI, Intel386 supplement, "Process Initialization"): esp and eip are given; that the
+-- other registers are 0 and the flags unspecified is own
+abbrev pub first_cpu : ℕ → ℕ → Cpu
+first_cpu entry esp0 = record {
+  regs = word_of 0 ∷ word_of 0 ∷ word_of 0 ∷ word_of 0 ∷ word_of esp0 ∷ word_of 0 ∷ word_of 0 ∷ word_of 0 ∷ [];
+  flags = no_flags;
+  eip = entry;
+}
+
+-- a run begins at an entry, over a memory to which the stack is added
+unfoldable pub start_over : Memory → ℕ → ℕ → List ℕ → Environment → State
+start_over m entry esp0 stack left = record { cpu = first_cpu entry esp0; memory = with_stack esp0 stack m; left = left }
+
+-- that of an image
+abbrev pub start_of : Image → ℕ → List ℕ → Environment → State
+start_of image esp0 stack left = start_over (memory_of image) image.entry esp0 stack left
+
+-- which starts there are (own)
+pub record IsStart (esp0 : ℕ) (stack : List ℕ) : Type 0 where
+  pub aligned : esp0 % 4 ≡ 0
+  pub high : 0x80000000 ≤ esp0
+  pub at_least : 128 ≤ length stack
+  pub at_most : length stack ≤ 131072
+  pub bytes : All (λ b. b < 256) stack
+  pub within : esp0 + length stack ≤ 0xFFFFE000
+
+abbrev pub IsAnswer : Answer → Type 0
+IsAnswer (Take k) = k < 2 ^ 32
+IsAnswer (Fail e) = (1 ≤ e) × (e ≤ 4095)
+
+-- an input is a list of bytes, and the answers are in their ranges
+pub record IsEnvironment (left : Environment) : Type 0 where
+  pub input : All (λ b. b < 256) left.input
+  pub answers : All IsAnswer left.answers
+
+-- What is seen of the run of some instructions from a state. Each step is a turn at the address of its instruction, so a
+-- run that is cut earlier is this run with an earlier stop.
+unfoldable pub run_from : Code → State → Behaviour
+run_from code s = run (turned (λ t. t.cpu.eip) (next code)) s
+
+-- the run of an image
+abbrev pub run_of : Image → ℕ → List ℕ → Environment → Behaviour
+run_of image esp0 stack left = run_from (code_of image) (start_of image esp0 stack left)

@@ -1,0 +1,11 @@
+//! What programs for the i386 mean: which instruction stands where, what one step does, the system call, and runs
+//! (Intel SDM volume 2; System V ABI, Intel386 supplement; Linux for the i386).
+#![tactic(auto)]
+
+mod instr;
+mod spelling;
+mod state;
+
+pub use instr::{Instr, Reg};
+pub use spelling::front;
+pub use state::Cpu;
