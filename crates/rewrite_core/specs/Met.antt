@@ -1,0 +1,36 @@
+-- The places that a run can meet, and which files are rewritten so far.
+use Rattle.std.specs.Prelude.{◌≡◌, ◌⊎◌, ℕ, ◌+◌, ◌%◌, ◌<◌, ◌≤◌, ◌==◌, ◌&&◌, ◌||◌, Bool, true, leb, List, Some}
+use Rattle.elf_image.specs.declared.image.Image.{Image}
+use Rattle.elf_image.specs.Image.{code_byte_at}
+use Rattle.elf_image.specs.Fields.{has_magic}
+use Rattle.elf_image.specs.Plain.{is_plain, plain_image}
+use Rattle.x86_meaning.specs.declared.instr.Reg.{Reg}
+use Rattle.x86_meaning.specs.declared.instr.Instr.{Instr}
+use Rattle.x86_meaning.specs.declared.instr.Instr.TheVariants.{Mov, Jmp, Int80}
+use Rattle.x86_meaning.specs.Run.{code_of}
+
+-- A place is met where it is the entry, the place after a met MOV or `int 0x80`, or the target of a met JMP.
+pub data Met (image : Image) : ℕ → Type 0 where
+  entry : Met image image.entry
+  after_mov : {a : ℕ} → (to : Reg) → (from len : ℕ) → Met image a → code_of image a ≡ Some (Mov to from, len) → Met image (a + len)
+  after_call : {a : ℕ} → (len : ℕ) → Met image a → code_of image a ≡ Some (Int80, len) → Met image (a + len)
+  target : {a : ℕ} → (by len : ℕ) → Met image a → code_of image a ≡ Some (Jmp by, len) → Met image ((a + len + by) % 4294967296)
+
+-- B8 to BF begin a MOV, CD begins a call, and F4 spells nothing here
+abbrev pub is_taken_byte : ℕ → Bool
+is_taken_byte b = (leb 0xB8 b && leb b 0xBF) || b == 0xCD || b == 0xF4
+
+-- a constant that is no address of the written file's own
+abbrev pub IsApart : ℕ → Type 0
+IsApart n = (n < 0x60000000) ⊎ (0x7C000000 ≤ n)
+
+-- What is rewritten so far: each met place that can be run begins so, and no met MOV moves such an address. (own)
+pub record IsTaken (image : Image) : Type 0 where
+  pub begins : (a b : ℕ) → Met image a → code_byte_at image a ≡ Some b → is_taken_byte b ≡ true
+  pub apart : (a : ℕ) (to : Reg) (from len : ℕ) → Met image a → code_of image a ≡ Some (Mov to from, len) → IsApart from
+
+-- a file that is rewritten
+pub record IsRewritable (file : List ℕ) : Type 0 where
+  pub magic : has_magic file ≡ true
+  pub plain : is_plain file ≡ true
+  pub taken : IsTaken (plain_image file)

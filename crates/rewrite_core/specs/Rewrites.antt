@@ -1,0 +1,39 @@
+-- What the rewriting of a file answers.
+use Rattle.std.specs.Prelude.{◌≡◌, ℕ, ◌<◌, ◌≤◌, true, false, List, length, take, drop, Some, None, Option, unwrap_or, Result, Ok, Err}
+use Rattle.elf_image.specs.declared.refusal.Refusal.{Refusal}
+use Rattle.elf_image.specs.declared.refusal.Refusal.TheVariants.{Short, Magic, NotYet}
+use Rattle.elf_image.specs.declared.refusal.Room.TheVariants.{Any}
+use Rattle.elf_image.specs.Fields.{has_magic}
+use Rattle.elf_image.specs.Image.{image_of}
+use Rattle.rewrite_core.specs.declared.rewriter.Rewritten.{Rewritten}
+use Rattle.rewrite_core.specs.declared.rewriter.RewriteError.{RewriteError}
+use Rattle.rewrite_core.specs.declared.rewriter.RewriteError.TheVariants.{Refused, Memory}
+use Rattle.rewrite_core.specs.Met.{IsRewritable}
+use Rattle.rewrite_core.specs.Straight.{straight_length, straight_code}
+use Rattle.rewrite_core.specs.Layout.{new_file, new_image}
+
+-- the page of code of a plain file
+abbrev pub text_of : List ℕ → List ℕ
+text_of file = take 4096 (drop 4096 file)
+
+-- the new code of a file that is rewritten
+abbrev pub code_for : List ℕ → List ℕ
+code_for file = straight_code (unwrap_or (straight_length (text_of file)) 0) (text_of file)
+
+-- the file that is written for it
+abbrev pub rewritten : List ℕ → List ℕ
+rewritten file = new_file (text_of file) (code_for file)
+
+-- the first refusal of a file, in order; a file that is refused by none of them is rewritten
+abbrev pub IsRefused : List ℕ → Refusal → Type 0
+IsRefused file Short = length file < 52
+IsRefused file Magic = (52 ≤ length file) × (has_magic file ≡ false)
+IsRefused file NotYet = (52 ≤ length file) × (has_magic file ≡ true) × (IsRewritable file → ⊥)
+IsRefused file _ = ⊥
+
+-- A file that is rewritten gives the stated file, which is accepted in the wide room as the stated image; each refusal is
+-- the first that holds.
+abbrev pub Rewrites : List ℕ → Result Rewritten RewriteError → Type 0
+Rewrites file (Ok r) = IsRewritable file × (r.file ≡ rewritten file) × (image_of r.file Any ≡ Ok (new_image (text_of file) (code_for file)))
+Rewrites file (Err (Refused r)) = IsRefused file r
+Rewrites file (Err Memory) = Unit {0}

@@ -1,0 +1,55 @@
+// The rewriting of a file.
+ghost use Rattle.rewrite_core.specs.Rewrites.{Rewrites};
+
+use crate::layout::write_file;
+use crate::straight::straight_length;
+use elf_image::{ImageError, Refusal, Room, read_image};
+use std::alloc::{AllocError, Global};
+use thiserror::Error;
+use x86_values::ByteList;
+
+/// A rewritten file.
+#[derive(Debug, Drop)]
+pub struct Rewritten {
+    pub file: ByteList,
+}
+
+/// A file is refused, or memory is wanting.
+#[derive(Debug, Drop, Error)]
+pub enum RewriteError {
+    #[error("the file is refused: {0:?}")]
+    Refused(Refusal),
+    #[error("no memory")]
+    Memory,
+}
+
+impl From<AllocError> for RewriteError {
+    ghost use Rattle.std.specs.Prelude.{◌≡◌};
+    ghost use Rattle.rewrite_core.specs.declared.rewriter.RewriteError.TheVariants.{Memory};
+
+    ghost from_gives = { λ _ e. e ≡ Memory };
+
+    fn from(_: AllocError) -> Self {
+        RewriteError::Memory
+    }
+}
+
+/// Rewrites an executable file. So far it takes straight-line code on one page: a file that has at least 52 bytes and the
+/// magic, and isn't plain, or in which a run can meet what isn't taken yet, is `NotYet`.
+pub fn rewrite(alloc: Global, bytes: &[u8]) -> Result<Rewritten, RewriteError>
+    ensures { Rewrites bytes.now result }
+{
+    let image = match read_image(alloc, bytes, Room::Source) {
+        Ok(image) => image,
+        Err(ImageError::Refused(r)) => return Err(RewriteError::Refused(r)),
+        Err(ImageError::Memory) => return Err(RewriteError::Memory),
+    };
+    let text = image.segments.as_slice()[0].bytes.as_slice();
+    let Some(n) = straight_length(text) else {
+        return Err(RewriteError::Refused(Refusal::NotYet));
+    };
+    let file = write_file(alloc, text, n)?;
+    Ok(Rewritten {
+        file: ByteList::new(file),
+    })
+}
