@@ -1,0 +1,5 @@
+pub mod Fronts
+pub mod Straights
+pub mod MetPlaces
+pub mod PlainPage
+pub mod Outcomes

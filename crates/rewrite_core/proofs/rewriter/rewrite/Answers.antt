@@ -1,0 +1,31 @@
+use Rattle.std.proofs.Common.{◌≡◌, ℕ, ◌≤◌, length, sym, ap, ◌∙◌, subst, arith, Some, Ok, unwrap_or}
+use Rattle.elf_image.specs.declared.refusal.Room.TheVariants.{Any}
+use Rattle.elf_image.specs.Image.{image_of}
+use Rattle.rewrite_core.specs.Straight.{straight_length, straight_code}
+use Rattle.rewrite_core.specs.Layout.{new_file, new_image}
+use Rattle.rewrite_core.specs.Rewrites.{text_of, code_for, rewritten}
+use Rattle.rewrite_core.proofs.Outcomes.{plain_file, reader_refuses, list_refuses, list_takes, length-straight_code, text_is}
+use Rattle.rewrite_core.proofs.LayoutLemmas.{new_file_accepted}
+use Rattle.rewrite_core.proofs.rewriter.rewrite.Goals as goal
+
+pub returns-in_default : goal.returns-in_default
+returns-in_default c =
+    let file = c.args.bytes.now in
+    let text = c.as_slice-text.ensures ∙ text_is file c.in-Ok.image c.as_slice.result.now _ c.in-Ok.ensures.2 c.as_slice.ensures in
+    list_refuses file (plain_file file c.in-Ok.ensures.0) (sym (ap straight_length text) ∙ sym c.in_default.ensures.is)
+
+pub write_file-requires : goal.write_file-requires
+write_file-requires c = record { within = c.in-Some.ensures.within }
+
+pub returns : goal.returns
+returns c =
+    let file = c.args.bytes.now in
+    let plain = plain_file file c.in-Ok.ensures.0 in
+    let text = c.as_slice-text.ensures ∙ text_is file c.in-Ok.image c.as_slice.result.now _ c.in-Ok.ensures.2 c.as_slice.ensures in
+    let n = c.in-Some.n in
+    let list : straight_length (text_of file) ≡ Some n = sym (ap straight_length text) ∙ sym c.in-Some.ensures.is in
+    let code : straight_code n (text_of file) ≡ code_for file = ap (λ o. straight_code (unwrap_or o 0) (text_of file)) (sym list) in
+    let is : c.new.result ≡ rewritten file = c.new.ensures ∙ c.in_ok-file.ensures ∙ ap (λ t. new_file t (straight_code n t)) text ∙ ap (new_file (text_of file)) code in
+    let within : n ≤ length (text_of file) = subst (λ t. n ≤ length t) text c.in-Some.ensures.within in
+    let size = sym (ap length code) ∙ length-straight_code (text_of file) n within in
+    (list_takes file n plain list, is, ap (λ f. image_of f Any) is ∙ new_file_accepted (text_of file) (code_for file) plain.whole (omega (arith, size)) (omega (arith, size, within, plain.whole)))

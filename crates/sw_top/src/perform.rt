@@ -1,0 +1,44 @@
+// The calls of the host for a rewriting.
+ghost use Rattle.std.specs.Prelude.{◌≡◌};
+ghost use Rattle.sw_host.specs.Told.{Tells, Rose};
+ghost use Rattle.sw_top.specs.Performs.{Performs};
+
+use rewrite_core::{RewriteError, rewrite};
+use std::alloc::Global;
+use sw_host::{Host, HostFault};
+
+use crate::End;
+
+/// The most bytes that are asked of a file, one more than the greatest file that is rewritten.
+const LIMIT: usize = 8193;
+
+/// The text of a map without entries.
+const MAP_TEXT: &str = "secondwrite-map 1\n";
+
+// Loads IN, and stores the new file as OUT and the map as MAP.
+pub fn perform<H: Host>(alloc: Global, from: &str, to: &str, map: &str, host: &mut H) -> End
+    ensures performs { Tells (H.told host.old) (H.told host.new) (Performs (record { from = from.now; to = to.now; map = map.now }) result) }
+    ensures cause { result ≡ End.Host → Rose (H.faults host.old) (H.faults host.new) }
+    ensures form { result ≡ End.Usage → ⊥ }
+{
+    let bytes = match host.load(alloc, from, LIMIT) {
+        Ok(bytes) => bytes,
+        Err(HostFault::Failed) => return End::Host,
+        Err(HostFault::Memory) => return End::Memory,
+    };
+    let rewritten = match rewrite(alloc, bytes.as_slice()) {
+        Ok(rewritten) => rewritten,
+        Err(RewriteError::Refused(refusal)) => return End::Refused(refusal),
+        Err(RewriteError::Memory) => return End::Memory,
+    };
+    match host.store(to, rewritten.file.as_slice()) {
+        Ok(()) => {}
+        Err(HostFault::Failed) => return End::Host,
+        Err(HostFault::Memory) => return End::Memory,
+    }
+    match host.store(map, MAP_TEXT.as_bytes()) {
+        Ok(()) => End::Done,
+        Err(HostFault::Failed) => End::Host,
+        Err(HostFault::Memory) => End::Memory,
+    }
+}

@@ -1,0 +1,42 @@
+// The top call.
+ghost use Rattle.std.specs.Prelude.{◌≡◌, ◌≤◌, ◌↔◌};
+ghost use Rattle.sw_host.specs.Told.{Tells, Rose};
+ghost use Rattle.sw_top.specs.Words.{texts, HasForm};
+ghost use Rattle.sw_top.specs.Serves.{Serves, Reports};
+
+use std::alloc::Global;
+use sw_host::Host;
+
+use crate::End;
+use crate::end::line_of;
+use crate::perform::perform;
+use crate::words::files_in;
+
+/// Serves `rewrite IN OUT MAP`, OUT and MAP different: loads IN, stores the new file as OUT and the text of its map as
+/// MAP. Then it says the line of its end, where that has one; a line that fails changes nothing. Memory can be wanting at
+/// any place from the load on; what was stored before stays.
+pub fn sw<H: Host>(alloc: Global, words: &[String], host: &mut H) -> End
+    ensures serves { Tells (H.told host.old) (H.told host.new) (Serves (texts words.now) result) }
+    // The words have no form exactly where this is the answer, whatever the host.
+    ensures usage { (result ≡ End.Usage) ↔ (HasForm (texts words.now) → ⊥) }
+    // A call of the host failed, as its count of faults shows.
+    ensures cause { result ≡ End.Host → Rose (H.faults host.old) (H.faults host.new) }
+{
+    let Some(files) = files_in(words) else {
+        report(&End::Usage, host);
+        return End::Usage;
+    };
+    let end = perform(alloc, files.from, files.to, files.map, host);
+    report(&end, host);
+    end
+}
+
+// Says the line of an end, where it has one.
+fn report<H: Host>(end: &End, host: &mut H)
+    ensures reports { Tells (H.told host.old) (H.told host.new) (Reports end.now) }
+    ensures faults { H.faults host.old ≤ H.faults host.new }
+{
+    if let Some(text) = line_of(end) {
+        let _ = host.line(text);
+    }
+}
