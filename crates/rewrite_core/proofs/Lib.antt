@@ -1,1 +1,3 @@
+pub mod PushLemmas
 pub mod LayoutLemmas
+pub mod CodeLemmas

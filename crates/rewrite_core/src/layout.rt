@@ -89,7 +89,7 @@ fn push_elf_header(out: &mut Vec<u8>, entry: u32, count: u16) -> Result<(), Allo
 }
 
 /// The program headers, for `size` bytes of new code.
-#[tactic(auto, using(crate::proofs::LayoutLemmas::pushed_headers))]
+#[tactic(auto, using(crate::proofs::PushLemmas::pushed_headers))]
 fn push_headers(out: &mut Vec<u8>, size: usize) -> Result<(), AllocError>
     ensures { OnOk result (out.new.items ≡ out.old.items ++ flat_map header_bytes (new_headers size)) }
 {
@@ -119,7 +119,7 @@ fn segment_header(
 }
 
 /// The file with this page of code, of which the first `n` bytes are its straight list.
-#[tactic(auto, using(crate::proofs::LayoutLemmas::pushed_file))]
+#[tactic(auto, using(crate::proofs::PushLemmas::pushed_file))]
 pub fn write_file(alloc: Global, text: &[u8], n: usize) -> Result<Vec<u8>, AllocError>
     requires within { n ≤ length text.now }
     ensures { IfOk result (λ file. file.items ≡ new_file text.now (straight_code n text.now)) }
