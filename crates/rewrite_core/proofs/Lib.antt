@@ -3,3 +3,6 @@ pub mod Straights
 pub mod MetPlaces
 pub mod PlainPage
 pub mod Outcomes
+pub mod PushLemmas
+pub mod LayoutLemmas
+pub mod CodeLemmas

@@ -1,11 +1,14 @@
 -- The written file: its headers, the old page of code, and the new code (gABI, "ELF Header", "Program Header").
-use Rattle.std.specs.Prelude.{ℕ, ◌+◌, ◌-◌, ◌*◌, ◌/◌, ◌%◌, List, [], ◌∷◌, ◌++◌, length, take, replicate}
+use Rattle.std.specs.Prelude.{◌≡◌, ◌⊎◌, ℕ, ◌+◌, ◌*◌, ◌/◌, ◌%◌, ◌<◌, ◌≤◌, List, [], ◌∷◌, ◌++◌, length, take, drop, replicate, slice_index, Some, None, Ok}
 use Rattle.std.specs.List.{flat_map}
 use Rattle.elf_image.specs.declared.header.ProgramHeader.{ProgramHeader}
 use Rattle.elf_image.specs.declared.image.Segment.{Segment}
 use Rattle.elf_image.specs.declared.image.Image.{Image}
+use Rattle.elf_image.specs.declared.refusal.Room.TheVariants.{Any}
+use Rattle.elf_image.specs.Image.{image_of, code_byte_at, code_bytes}
 use Rattle.elf_image.specs.Plain.{room_segment}
 use Rattle.x86_meaning.specs.Spells.{word_bytes}
+use Rattle.rewrite_core.specs.Straight.{straight_code, stop}
 
 abbrev pub half_bytes : ℕ → List ℕ
 half_bytes n = n % 256 ∷ n / 256 % 256 ∷ []
@@ -15,13 +18,13 @@ abbrev pub ident : List ℕ
 ident = 0x7F ∷ 0x45 ∷ 0x4C ∷ 0x46 ∷ 1 ∷ 1 ∷ 1 ∷ 0 ∷ 0 ∷ 0 ∷ 0 ∷ 0 ∷ 0 ∷ 0 ∷ 0 ∷ 0 ∷ []
 
 -- ET_EXEC, EM_386, EV_CURRENT, the entry, the headers at 52, no sections, no flags
-abbrev pub elf_header : ℕ → ℕ → List ℕ
+unfoldable pub elf_header : ℕ → ℕ → List ℕ
 elf_header entry count =
     ident ++ half_bytes 2 ++ half_bytes 3 ++ word_bytes 1 ++ word_bytes entry ++ word_bytes 52 ++ word_bytes 0 ++ word_bytes 0
     ++ half_bytes 52 ++ half_bytes 32 ++ half_bytes count ++ half_bytes 0 ++ half_bytes 0 ++ half_bytes 0
 
 -- p_type, p_offset, p_vaddr, p_paddr (the same), p_filesz, p_memsz, p_flags, p_align (a page)
-abbrev pub header_bytes : ProgramHeader → List ℕ
+unfoldable pub header_bytes : ProgramHeader → List ℕ
 header_bytes h =
     word_bytes h.kind ++ word_bytes h.offset ++ word_bytes h.address ++ word_bytes h.address ++ word_bytes h.file_size ++ word_bytes h.memory_size ++ word_bytes h.flags ++ word_bytes 4096
 
@@ -34,12 +37,15 @@ abbrev pub code_start : ℕ
 code_start = 0x60000000
 
 -- the old page of code, which can't be run; the page of zeros; and the new code, of so many bytes
-abbrev pub new_headers : ℕ → List ProgramHeader
+unfoldable pub new_headers : ℕ → List ProgramHeader
 new_headers n = segment_header 0x1000 0x08049000 4096 4096 4 ∷ segment_header 0x2000 0x0804A000 0 4096 6 ∷ segment_header 0x2000 code_start n n 5 ∷ []
+
+unfoldable pub zeros : ℕ → List ℕ
+zeros n = replicate n 0
 
 -- a page of headers, the old page, and the new code
 unfoldable pub new_file : List ℕ → List ℕ → List ℕ
-new_file text code = elf_header code_start 3 ++ flat_map header_bytes (new_headers (length code)) ++ replicate 3948 0 ++ text ++ code
+new_file text code = elf_header code_start 3 ++ flat_map header_bytes (new_headers (length code)) ++ zeros 3948 ++ text ++ code
 
 -- so many bytes, in whole pages
 abbrev pub whole_pages : ℕ → ℕ
@@ -57,3 +63,30 @@ code_segment code = record { start = code_start; size = whole_pages (length code
 
 abbrev pub new_image : List ℕ → List ℕ → Image
 new_image text code = record { segments = kept_segment text ∷ room_segment ∷ code_segment code ∷ []; entry = code_start }
+
+-- the written file is accepted as its image, with no more code than may stand in the wide room
+abbrev pub NewFileIsAccepted : Type 0
+NewFileIsAccepted = (text code : List ℕ) → length text ≡ 4096 → 1 ≤ length code → length code ≤ 0x14000000 → image_of (new_file text code) Any ≡ Ok (new_image text code)
+
+-- the bytes that can be run are those of the new code, and zeros up to the end of its last page
+abbrev pub NewCodeIsThere : Type 0
+NewCodeIsThere = (text code : List ℕ) (k : ℕ) → k < length code → code_byte_at (new_image text code) (code_start + k) ≡ Some (slice_index code k)
+
+abbrev pub NewCodeIsAll : Type 0
+NewCodeIsAll = (text code : List ℕ) (a : ℕ) → (a < code_start) ⊎ (code_start + whole_pages (length code) ≤ a) → code_byte_at (new_image text code) a ≡ None
+
+abbrev pub NewCodeIsInPages : Type 0
+NewCodeIsInPages = (text code : List ℕ) (n k : ℕ) → k ≤ whole_pages (length code) → code_bytes (new_image text code) (code_start + k) n ≡ take n (drop k (in_pages code))
+
+-- a worked row: MOV EBX, 7; MOV EAX, 1; INT 80h; HLT, whatever follows
+abbrev pub row_list : List ℕ
+row_list = 0xBB ∷ 0x07 ∷ 0x00 ∷ 0x00 ∷ 0x00 ∷ 0xB8 ∷ 0x01 ∷ 0x00 ∷ 0x00 ∷ 0x00 ∷ 0xCD ∷ 0x80 ∷ []
+
+abbrev pub row_text : List ℕ → List ℕ
+row_text rest = row_list ++ 0xF4 ∷ rest
+
+abbrev pub row_image : List ℕ → Image
+row_image rest = new_image (row_text rest) (straight_code 12 (row_text rest))
+
+abbrev pub RowIsWritten : Type 0
+RowIsWritten = (rest : List ℕ) → code_bytes (row_image rest) (row_image rest).entry 14 ≡ row_list ++ 0x0F ∷ 0x0B ∷ []
