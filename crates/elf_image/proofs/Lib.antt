@@ -1,1 +1,2 @@
 pub mod PlainForm
+pub mod Rows
