@@ -3,3 +3,4 @@ pub mod Pages
 pub mod Refusals
 pub mod Image
 pub mod Plain
+pub mod Rows

@@ -2,6 +2,8 @@
 ghost use Rattle.std.specs.Prelude.{◌≡◌, ◌+◌, ◌≤◌, length};
 ghost use Rattle.elf_image.specs.Fields.{half_at, word_at, header_at, has_magic};
 
+use byteorder::{ByteOrder, LittleEndian};
+
 /// The fields of a program header that count here (gABI, "Program Header"): p_type, p_offset, p_vaddr, p_filesz,
 /// p_memsz, p_flags. Sizes are in bytes.
 #[derive(Clone, Copy, Debug, PartialEq, Eq)]
@@ -12,4 +14,41 @@ pub struct ProgramHeader {
     pub file_size: u32,
     pub memory_size: u32,
     pub flags: u32,
+}
+
+/// The bytes 7F 45 4C 46 begin the file.
+pub(crate) fn has_magic(bytes: &[u8]) -> bool
+    requires { 4 ≤ length bytes.now }
+    ensures { result ≡ has_magic bytes.now }
+{
+    bytes[0] == 0x7F && bytes[1] == b'E' && bytes[2] == b'L' && bytes[3] == b'F'
+}
+
+pub(crate) fn half(bytes: &[u8], i: usize) -> u16
+    requires { i + 2 ≤ length bytes.now }
+    ensures { result ≡ half_at bytes.now i }
+{
+    LittleEndian::read_u16(&bytes[i..])
+}
+
+pub(crate) fn word(bytes: &[u8], i: usize) -> u32
+    requires { i + 4 ≤ length bytes.now }
+    ensures { result ≡ word_at bytes.now i }
+{
+    LittleEndian::read_u32(&bytes[i..])
+}
+
+/// The program header that stands at a place.
+pub(crate) fn header_at(bytes: &[u8], i: usize) -> ProgramHeader
+    requires { i + 32 ≤ length bytes.now }
+    ensures { result ≡ header_at bytes.now i }
+{
+    ProgramHeader {
+        kind: word(bytes, i),
+        offset: word(bytes, i + 4),
+        address: word(bytes, i + 8),
+        file_size: word(bytes, i + 16),
+        memory_size: word(bytes, i + 20),
+        flags: word(bytes, i + 24),
+    }
 }

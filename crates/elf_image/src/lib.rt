@@ -4,12 +4,14 @@
 
 mod header;
 mod image;
+mod laws;
 mod perm;
 mod reader;
 mod refusal;
 
 pub use header::ProgramHeader;
 pub use image::{Image, Segment, SegmentList};
+pub use laws::image_laws;
 pub use perm::Perm;
 pub use reader::read_image;
 pub use refusal::{ImageError, Refusal, Room};

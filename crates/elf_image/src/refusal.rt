@@ -3,6 +3,8 @@
 ghost use Rattle.std.specs.Prelude.{◌≡◌};
 
 use std::alloc::AllocError;
+use std::fmt;
+use thiserror::Error;
 
 /// Where a file's pages may lie: the room of files that are rewritten, or the wider room of files that are run.
 #[derive(Clone, Copy, Debug, PartialEq, Eq)]
@@ -37,10 +39,19 @@ pub enum Refusal {
     NotYet,
 }
 
+/// The name of the cause.
+impl fmt::Display for Refusal {
+    fn fmt<W: fmt::Write>(&self, f: &mut fmt::Formatter<W>) -> fmt::Result {
+        write!(f, "{self:?}")
+    }
+}
+
 /// A file is refused, or memory is wanting.
-#[derive(Debug, Drop)]
+#[derive(Debug, Drop, Error)]
 pub enum ImageError {
+    #[error("refused {0}")]
     Refused(Refusal),
+    #[error("out of memory")]
     Memory,
 }
 

@@ -1,0 +1,87 @@
+-- Files that are written out, and what the definition of an image says of each.
+use Rattle.std.specs.Prelude.{◌≡◌, ℕ, ◌+◌, ◌-◌, ◌*◌, ◌/◌, ◌%◌, Bool, true, false, List, [], ◌∷◌, ◌++◌, length, replicate, Option, Some, None, Result, Ok, Err, slice_set, IsOkAnd}
+use Rattle.elf_image.specs.declared.image.Image.{Image}
+use Rattle.elf_image.specs.declared.refusal.Room.{Room}
+use Rattle.elf_image.specs.declared.refusal.Room.TheVariants.{Source}
+use Rattle.elf_image.specs.declared.refusal.Refusal.TheVariants.{Short, Class, Permission, SegmentFile}
+use Rattle.elf_image.specs.Image.{image_of, byte_at, code_byte_at, can_write}
+
+-- the bytes of a half and of a word, lowest first
+abbrev pub half : ℕ → List ℕ
+half n = n % 256 ∷ n / 256 % 256 ∷ []
+
+abbrev pub word : ℕ → List ℕ
+word n = n % 256 ∷ n / 256 % 256 ∷ n / 65536 % 256 ∷ n / 16777216 % 256 ∷ []
+
+abbrev pub zeros : ℕ → List ℕ
+zeros n = replicate n 0
+
+-- the header of an executable for the i386 that begins at 0x08049000, with n program headers at 52 and no sections
+abbrev pub file_header : ℕ → List ℕ
+file_header n =
+    0x7F ∷ 0x45 ∷ 0x4C ∷ 0x46 ∷ 1 ∷ 1 ∷ 1 ∷ zeros 9 ++ half 2 ++ half 3 ++ word 1 ++ word 0x08049000 ++ word 52 ++ zeros 8 ++ half 52 ++ half 32 ++ half n ++ zeros 6
+
+-- a program header; its physical address is its address, and its alignment a page
+abbrev pub segment_header : ℕ → ℕ → ℕ → ℕ → ℕ → List ℕ
+segment_header offset address file_size memory_size flags = word 1 ++ word offset ++ word address ++ word address ++ word file_size ++ word memory_size ++ word flags ++ word 4096
+
+-- the plain file with this code, of a page at most
+unfoldable pub file_with : List ℕ → List ℕ
+file_with code =
+    file_header 2 ++ segment_header 0x1000 0x08049000 (length code) (length code) 5 ++ segment_header 0x2000 0x0804A000 0 4096 6 ++ zeros 3980
+    ++ code ++ zeros (4096 - length code)
+
+-- mov ebx, 7; mov eax, 1; int 0x80; hlt
+abbrev pub exits_with_seven : List ℕ
+exits_with_seven = 0xBB ∷ 7 ∷ 0 ∷ 0 ∷ 0 ∷ 0xB8 ∷ 1 ∷ 0 ∷ 0 ∷ 0 ∷ 0xCD ∷ 0x80 ∷ 0xF4 ∷ []
+
+abbrev pub seven_file : List ℕ
+seven_file = file_with exits_with_seven
+
+-- an empty file is too short
+abbrev pub EmptyFile : Type 0
+EmptyFile = (room : Room) → image_of [] room ≡ Err Short
+
+-- with the magic and zeros after it, a file is of no known class
+abbrev pub MagicAlone : Type 0
+MagicAlone = (room : Room) → image_of (0x7F ∷ 0x45 ∷ 0x4C ∷ 0x46 ∷ zeros 48) room ≡ Err Class
+
+-- its code stands in a page that can be run and not written, and after that comes a page that can be written and not run
+abbrev pub ShowsSeven : Image → Type 0
+ShowsSeven image =
+    (image.entry ≡ 0x08049000) × (code_byte_at image 0x08049000 ≡ Some 0xBB) × (code_byte_at image 0x0804A000 ≡ None) × (byte_at image 0x0804A000 ≡ Some 0)
+    × (can_write image 0x0804A000 ≡ true) × (can_write image 0x08049000 ≡ false) × (byte_at image 0x0804B000 ≡ None)
+
+abbrev pub SevenFile : Type 0
+SevenFile = IsOkAnd (image_of seven_file Source) ShowsSeven
+
+-- the code's page can be written too, and then its size in the file is too great as well
+abbrev pub writable_code : List ℕ
+writable_code = slice_set seven_file 76 7
+
+abbrev pub WritableCode : Type 0
+WritableCode = (image_of writable_code Source ≡ Err Permission) × (image_of (slice_set writable_code 69 0x20) Source ≡ Err SegmentFile)
+
+-- endbr32, then reads, writes and an exit by calls of the outside, as a linker would place them
+abbrev pub linked_code : List ℕ
+linked_code =
+    0xF3 ∷ 0x0F ∷ 0x1E ∷ 0xFB ∷ 0x8B ∷ 0x74 ∷ 0x24 ∷ 0x04 ∷ 0x31 ∷ 0xD2 ∷ 0x80 ∷ 0x3C ∷ 0x16 ∷ 0x00 ∷ 0x74 ∷ 0x03 ∷ 0x42 ∷ 0xEB ∷ 0xF7 ∷ 0x85 ∷ 0xD2 ∷ 0x74 ∷ 0x0D ∷ 0x89 ∷ 0xF1
+    ∷ 0xE8 ∷ 0x12 ∷ 0x00 ∷ 0x00 ∷ 0x00 ∷ 0x01 ∷ 0xC6 ∷ 0x29 ∷ 0xC2 ∷ 0xEB ∷ 0xEF ∷ 0x31 ∷ 0xDB ∷ 0xB8 ∷ 0x01 ∷ 0x00 ∷ 0x00 ∷ 0x00 ∷ 0xCD ∷ 0x80 ∷ 0xF4 ∷ 0x66 ∷ 0x90 ∷ 0xBB ∷ 0x01
+    ∷ 0x00 ∷ 0x00 ∷ 0x00 ∷ 0xB8 ∷ 0x04 ∷ 0x00 ∷ 0x00 ∷ 0x00 ∷ 0xCD ∷ 0x80 ∷ 0xF3 ∷ 0xC3 ∷ []
+
+-- a file as a linker lays it out: its headers, code, data that can only be read, data that can be written and is longer
+-- in memory, and a header of type PT_GNU_STACK
+unfoldable pub linked_file : List ℕ
+linked_file =
+    file_header 5 ++ segment_header 0 0x08048000 0xD4 0xD4 4 ++ segment_header 0x1000 0x08049000 62 62 5 ++ segment_header 0x2000 0x0804A000 4 4 4
+    ++ segment_header 0x3000 0x0804B000 4 16 6 ++ word 0x6474E551 ++ zeros 20 ++ word 6 ++ zeros 4 ++ zeros 3884
+    ++ linked_code ++ zeros 4034 ++ zeros 4096 ++ zeros 4
+
+abbrev pub ShowsLinked : Image → Type 0
+ShowsLinked image =
+    (length image.segments ≡ 4) × (image.entry ≡ 0x08049000) × (byte_at image 0x08048000 ≡ Some 0x7F) × (code_byte_at image 0x08048000 ≡ None)
+    × (code_byte_at image 0x0804903D ≡ Some 0xC3) × (can_write image 0x0804A000 ≡ false) × (byte_at image 0x0804B010 ≡ Some 0) × (can_write image 0x0804B010 ≡ true)
+    × (byte_at image 0x0804C000 ≡ None)
+
+abbrev pub LinkedFile : Type 0
+LinkedFile = IsOkAnd (image_of linked_file Source) ShowsLinked
