@@ -1,5 +1,5 @@
 -- What several calls tell together.
-use Rattle.std.proofs.Common.{◌≡◌, Option, Some, None, refl, sym, subst}
+use Rattle.std.proofs.Common.{◌≡◌, Option, Some, refl, sym, subst}
 use Rattle.sw_host.specs.Told.{Told, Tells}
 
 -- no call

@@ -1,15 +1,15 @@
 -- What the fields of a host in memory tell.
-use Rattle.std.proofs.Common.{◌≡◌, ℕ, ◌+◌, ◌==◌, ◌||◌, ◌<◌, Bool, true, false, cond, List, [], ◌∷◌, ◌++◌, map, length, drop, get_or, Option, Some, None, refl, sym, ap, ◌∙◌, add-one, drop-cons, arith}
-use Rattle.std.proofs.lemmas.List.{map-append}
+use Rattle.std.proofs.Common.{◌≡◌, ℕ, ◌+◌, ◌==◌, ◌||◌, ◌<◌, Bool, cond, List, [], ◌∷◌, ◌++◌, map, length, drop, get_or, Some, Result, Ok, Err, refl, sym, ap, ◌∙◌, add-one, drop-cons, arith}
 use Rattle.std.proofs.lemmas.Grind.{common_steps}
 use Rattle.std.proofs.lemmas.List.Folds.{list_any-append}
 use Rattle.std.specs.Bool.{nat_eq}
-use Rattle.std.specs.Ordering.{nat_cmp}
 use Rattle.std.proofs.lemmas.Cmp.{nat_list_cmp_total}
 use Rattle.std.specs.Cmp.Lexicographic.{pointwise, texts_ties}
 use Rattle.std.specs.FinMap.{get, get-from_entries}
-use Rattle.sw_host.proofs.Chain.{plainly_tells}
-use Rattle.sw_host.specs.Memory.{entry, files_of, find_file, fails_at}
+use Rattle.sw_host.specs.Told.{HasCause}
+use Rattle.sw_host.specs.declared.host.HostFault.{HostFault}
+use Rattle.sw_host.specs.declared.host.HostFault.TheVariants.{Failed, Memory}
+use Rattle.sw_host.specs.Memory.{entry, files_of, find_file, fails_at, CountsFault}
 use Rattle.sw_host.specs.declared.memory.File.{File}
 
 head-drop : (files : List File) (i : ℕ) (f : File) → i < length files → f ≡ get_or files i f → drop i files ≡ f ∷ drop (i + 1) files
@@ -33,4 +33,10 @@ at-push failing number call = rw (list_any-append (λ n. nat_eq n call) failing 
 pub fails_at-push : (failing : List ℕ) (number : ℕ) → fails_at (failing ++ number ∷ []) ≡ (λ n. fails_at failing n || (number == n))
 fails_at-push failing number i call = at-push failing number call i
 
-pub ruleset telling = (plainly_tells, map-append, get-files_of)
+-- a count that rises exactly at `Failed` has its cause
+pub HasCause-counted : {T : Type 0} (before now : ℕ) (r : Result T HostFault) → CountsFault before now r → HasCause before now r
+HasCause-counted before now (Ok x) e = omega arith
+HasCause-counted before now (Err Failed) e = omega arith
+HasCause-counted before now (Err Memory) e = omega arith
+
+pub ruleset telling = (get-files_of)

@@ -1,7 +1,8 @@
 // A host in memory. It tells all its meanings.
-ghost use Rattle.std.specs.Prelude.{◌≡◌, ℕ, ◌+◌, ◌-◌, ◌^◌, min, take, Some, None, OnOk, OnErr, MatchOption};
+ghost use Rattle.std.specs.Prelude.{◌≡◌, ℕ, ◌+◌, ◌-◌, ◌^◌, min, take, Some, None, OnOk, OnErr};
+ghost use Rattle.std.specs.Option.{option_copied};
 ghost use Rattle.std.specs.FinMap.{get, insert};
-ghost use Rattle.sw_host.specs.Told.{Tells, HasCause, last_count};
+ghost use Rattle.sw_host.specs.Told.{last_count};
 ghost use Rattle.sw_host.specs.Calls.{with_file, Loads, Stores, Lines};
 ghost use Rattle.sw_host.specs.Memory.{told_by, faults_of, nothing_told, with_failing, CountsFault, files_of, find_file, fails_at};
 
@@ -29,7 +30,7 @@ pub struct MemoryHost {
 
 // The bytes of the newest file of that name.
 fn find<'a>(files: &'a [File], name: &[u8]) -> Option<&'a [u8]>
-    ensures { MatchOption result (find_file files.now name.now ≡ None) (λ bytes. find_file files.now name.now ≡ Some bytes.now) }
+    ensures { option_copied result ≡ find_file files.now name.now }
 {
     for file in files {
         if name == file.name.as_slice() {
@@ -46,7 +47,8 @@ fn put_file(
     name: &[u8],
     bytes: &[u8],
 ) -> Result<(), AllocError>
-    ensures ok { OnOk result (files_of files.new.items ≡ insert (files_of files.old.items) name.now bytes.now) }
+    ensures ok { OnOk result
+        (files_of files.new.items ≡ insert (files_of files.old.items) name.now bytes.now) }
     ensures err { OnErr result (files.new.items ≡ files.old.items) }
 {
     let name = name.to_vec(alloc)?;
@@ -112,7 +114,7 @@ impl MemoryHost {
 
     /// The bytes of a file; `None` exactly where there is none of that name.
     pub fn file(&self, name: &str) -> Option<&[u8]>
-        ensures { MatchOption result (get (told_by self.now).files name.now ≡ None) (λ bytes. get (told_by self.now).files name.now ≡ Some bytes.now) }
+        ensures { option_copied result ≡ get (told_by self.now).files name.now }
     {
         find(&self.files, name.as_bytes())
     }
@@ -152,9 +154,8 @@ impl Host for MemoryHost {
     ghost faults = { λ m. faults_of m };
 
     fn load(&mut self, alloc: Global, name: &str, limit: usize) -> Result<Vec<u8>, HostFault>
-        ensures told { Tells (Some (told_by self.old)) (Some (told_by self.new)) (Loads name.now limit result) }
-        ensures cause { HasCause (faults_of self.old) (faults_of self.new) result }
-        ensures counts { CountsFault (faults_of self.old) (faults_of self.new) result }
+        ensures told { Loads name.now limit result (told_by self.old) (told_by self.new) }
+        ensures faults { CountsFault (faults_of self.old) (faults_of self.new) result }
     {
         if self.begin() {
             return Err(self.fail());
@@ -166,9 +167,8 @@ impl Host for MemoryHost {
     }
 
     fn store(&mut self, name: &str, bytes: &[u8]) -> Result<(), HostFault>
-        ensures told { Tells (Some (told_by self.old)) (Some (told_by self.new)) (Stores name.now bytes.now result) }
-        ensures cause { HasCause (faults_of self.old) (faults_of self.new) result }
-        ensures counts { CountsFault (faults_of self.old) (faults_of self.new) result }
+        ensures told { Stores name.now bytes.now result (told_by self.old) (told_by self.new) }
+        ensures faults { CountsFault (faults_of self.old) (faults_of self.new) result }
         ensures kept { OnErr result ((told_by self.new).files ≡ (told_by self.old).files) }
     {
         if self.begin() {
@@ -179,9 +179,8 @@ impl Host for MemoryHost {
     }
 
     fn line(&mut self, text: &str) -> Result<(), HostFault>
-        ensures told { Tells (Some (told_by self.old)) (Some (told_by self.new)) (Lines text.now result) }
-        ensures cause { HasCause (faults_of self.old) (faults_of self.new) result }
-        ensures counts { CountsFault (faults_of self.old) (faults_of self.new) result }
+        ensures told { Lines text.now result (told_by self.old) (told_by self.new) }
+        ensures faults { CountsFault (faults_of self.old) (faults_of self.new) result }
     {
         if self.begin() {
             return Err(self.fail());

@@ -1,5 +1,4 @@
-use Rattle.std.proofs.Common.{◌≡◌, ℕ, Bool, refl}
-use Rattle.sw_host.specs.Told.{Told}
+use Rattle.std.proofs.Common.{refl}
 use Rattle.sw_host.specs.Memory.{told_by, with_failing}
 use Rattle.sw_host.proofs.MemoryLemmas.{fails_at-push}
 use Rattle.sw_host.proofs.memory.MemoryHost.fail_call.Goals as goal
