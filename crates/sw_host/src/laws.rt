@@ -1,0 +1,8 @@
+ghost use Rattle.sw_host.specs.Laws.{StoredFile, OtherFiles, FailsAlike};
+
+/// Does nothing: its clauses are laws of what a host tells.
+pub fn host_laws()
+    ensures stored_file { StoredFile }
+    ensures other_files { OtherFiles }
+    ensures fails_alike { FailsAlike }
+{}
