@@ -3,3 +3,4 @@ pub mod Memory
 pub mod SystemCall
 pub mod Step
 pub mod Run
+pub mod Laws

@@ -3,9 +3,11 @@
 #![tactic(auto)]
 
 mod instr;
+mod laws;
 mod spelling;
 mod state;
 
 pub use instr::{Instr, Reg};
+pub use laws::{run_laws, spelling_laws};
 pub use spelling::front;
 pub use state::Cpu;
