@@ -4,3 +4,4 @@ pub mod SystemCall
 pub mod Step
 pub mod Run
 pub mod Laws
+pub mod Rows

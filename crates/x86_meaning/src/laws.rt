@@ -1,4 +1,5 @@
 // The laws of the definitions. Each function does nothing, and its clauses are the laws.
+ghost use Rattle.x86_meaning.specs.Rows.{ExitsLow, ExitsSeven, Loops, MakesOtherCall, ReadStands, Reads, ReadsAndWrites, ReadsFromOne, ReadsIntoCode, ReadsNone, ReadsNothing, ReadsPastPage, StackIsStart, StandsOutside, WritesBelow, WritesByAnswer, WritesStack, WritesText};
 ghost use Rattle.x86_meaning.specs.Laws.{FifteenAreEnough, FrontIsSpelling, NoSpellingBeginsAnother, NoneIsNoSpelling, RunsArePaced, RunsGrow, RunsHaveNoGuard, RunsNeverStop, RunsTick, SpellingIsShort};
 
 /// Does nothing: its clauses say that the computed front is the relation of spellings, and that a list of bytes has at
@@ -18,4 +19,26 @@ pub fn run_laws()
     ensures runs_tick { RunsTick }
     ensures runs_are_paced { RunsArePaced }
     ensures runs_have_no_guard { RunsHaveNoGuard }
+{}
+
+/// Does nothing: its clauses are runs of small programs, each computed by the definitions.
+pub fn worked_runs()
+    ensures stack_is_start { StackIsStart }
+    ensures exits_seven { ExitsSeven }
+    ensures exits_low { ExitsLow }
+    ensures makes_other_call { MakesOtherCall }
+    ensures loops { Loops }
+    ensures stands_outside { StandsOutside }
+    ensures writes_text { WritesText }
+    ensures writes_by_answer { WritesByAnswer }
+    ensures writes_stack { WritesStack }
+    ensures writes_below { WritesBelow }
+    ensures reads { Reads }
+    ensures read_stands { ReadStands }
+    ensures reads_nothing { ReadsNothing }
+    ensures reads_and_writes { ReadsAndWrites }
+    ensures reads_from_one { ReadsFromOne }
+    ensures reads_into_code { ReadsIntoCode }
+    ensures reads_past_page { ReadsPastPage }
+    ensures reads_none { ReadsNone }
 {}

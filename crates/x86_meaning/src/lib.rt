@@ -8,6 +8,6 @@ mod spelling;
 mod state;
 
 pub use instr::{Instr, Reg};
-pub use laws::{run_laws, spelling_laws};
+pub use laws::{run_laws, spelling_laws, worked_runs};
 pub use spelling::front;
 pub use state::Cpu;
