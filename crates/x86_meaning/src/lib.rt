@@ -11,3 +11,6 @@ pub use instr::{Instr, Reg};
 pub use laws::{run_laws, spelling_laws, worked_runs};
 pub use spelling::front;
 pub use state::Cpu;
+
+#[cfg(test)]
+mod tests;
