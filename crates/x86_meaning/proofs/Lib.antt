@@ -1,3 +1,4 @@
 pub mod Spellings
+pub mod Memories
 pub mod Moves
 pub mod Rows

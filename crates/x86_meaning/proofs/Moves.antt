@@ -1,9 +1,9 @@
 -- What each move of the machine shows, and how it ends.
-use Rattle.std.proofs.Common.{◌≡◌, ℕ, ◌≢◌, Bool, true, false, cond, List, [], ◌∷◌, Option, Some, None, refl, ap, ◌==◌, ◌||◌, ◌&&◌, leb, min, length}
+use Rattle.std.proofs.Common.{◌≡◌, ℕ, ◌≢◌, Bool, true, false, cond, List, [], Option, Some, None, refl, ◌==◌}
 use Rattle.x86_values.specs.declared.answer.Answer.{Answer}
 use Rattle.x86_values.specs.declared.answer.Answer.TheVariants.{Take, Fail}
 use Rattle.x86_values.specs.Words.{known, known_byte}
-use Rattle.traces.specs.Trace.{Label, End, Exited, MemoryFault, DivideFault, Outside, OtherCall, Unspecified, Guard, Stopped, GuardKind, Move, Stand, Go, Halt, Grows, run, turns}
+use Rattle.traces.specs.Trace.{Label, End, Guard, Stopped, GuardKind, Move, Stand, Go, Halt, Grows, turns}
 use Rattle.traces.specs.Turns.{Paced, Ticks}
 use Rattle.traces.specs.Plain.{NeverStops}
 use Rattle.traces.specs.Machines.{marked, turned, Unturned, EndsIn}
@@ -12,8 +12,8 @@ use Rattle.traces.proofs.Adapt.{turned_ticks, turned_paced}
 use Rattle.x86_meaning.specs.declared.instr.Instr.{Instr}
 use Rattle.x86_meaning.specs.declared.instr.Instr.TheVariants.{Mov, Jmp, Int80}
 use Rattle.x86_meaning.specs.declared.state.Cpu.{Cpu}
-use Rattle.x86_meaning.specs.Memory.{Memory, can_all, known_all}
-use Rattle.x86_meaning.specs.SystemCall.{Request, Environment, Called, Ends, Gives, cap, passes, Plan, Refused, Stops, Asks, asks_known, read_plan, write_plan, read_by, write_by, reads, writes, read_call, write_call, exit_call, transfer, call_by, system_call, next_answer}
+use Rattle.x86_meaning.specs.Memory.{Memory}
+use Rattle.x86_meaning.specs.SystemCall.{Request, Environment, Called, Ends, Gives, Plan, Refused, Stops, Asks, read_plan, write_plan, read_by, write_by, reads, writes, read_call, write_call, exit_call, transfer, call_by, system_call, next_answer}
 use Rattle.x86_meaning.specs.Step.{State, Code, reg_at, settled_by, settled, after_call, step, step_at, next}
 use Rattle.x86_meaning.specs.Run.{run_from}
 

@@ -4,4 +4,5 @@ pub mod SystemCall
 pub mod Step
 pub mod Run
 pub mod Laws
+pub mod MemoryLaws
 pub mod Rows

@@ -6,8 +6,7 @@ use Rattle.x86_values.specs.declared.answer.Answer.{Answer}
 use Rattle.x86_values.specs.declared.answer.Answer.TheVariants.{Take, Fail}
 use Rattle.traces.specs.Trace.{Event, Read, Write, End, Exited, Outside, OtherCall, Unspecified, Behaviour, events, Move, Stand, Go, Halt}
 use Rattle.elf_image.specs.declared.image.Image.{Image}
-use Rattle.x86_meaning.specs.Memory.{Place}
-use Rattle.x86_meaning.specs.SystemCall.{Environment, error, EBADF, EFAULT}
+use Rattle.x86_meaning.specs.SystemCall.{error, EBADF, EFAULT}
 use Rattle.x86_meaning.specs.Step.{State, Code, next}
 use Rattle.x86_meaning.specs.Run.{code_of, start_of, run_of, IsStart}
 

@@ -1,5 +1,6 @@
 // The laws of the definitions. Each function does nothing, and its clauses are the laws.
 ghost use Rattle.x86_meaning.specs.Rows.{ExitsLow, ExitsSeven, Loops, MakesOtherCall, ReadStands, Reads, ReadsAndWrites, ReadsFromOne, ReadsIntoCode, ReadsNone, ReadsNothing, ReadsPastPage, StackIsStart, StandsOutside, WritesBelow, WritesByAnswer, WritesStack, WritesText};
+ghost use Rattle.x86_meaning.specs.MemoryLaws.{CanApart, CanByKinds, CanInSame, ForgetAbove, ForgetBelow, ForgetKeepsKinds, ForgetKeepsSame, ForgetOffStack, ForgetThenForget, KnownApart, KnownInSame, PutAllAbove, PutAllBelow, PutAllIsKnown, PutAllKeepsKinds, PutAllKeepsSame, PutAllThere, PutAllWithin, PutElsewhere, PutKeepsSame, PutThere, SameInApart, StackKeepsSame};
 ghost use Rattle.x86_meaning.specs.Laws.{FifteenAreEnough, FrontIsSpelling, NoSpellingBeginsAnother, NoneIsNoSpelling, RunsArePaced, RunsGrow, RunsHaveNoGuard, RunsNeverStop, RunsTick, SpellingIsShort};
 
 /// Does nothing: its clauses say that the computed front is the relation of spellings, and that a list of bytes has at
@@ -19,6 +20,37 @@ pub fn run_laws()
     ensures runs_tick { RunsTick }
     ensures runs_are_paced { RunsArePaced }
     ensures runs_have_no_guard { RunsHaveNoGuard }
+{}
+
+/// Does nothing: its clauses say what stands in memory where bytes were put or forgotten.
+pub fn memory_laws()
+    ensures put_there { PutThere }
+    ensures put_elsewhere { PutElsewhere }
+    ensures put_all_there { PutAllThere }
+    ensures put_all_below { PutAllBelow }
+    ensures put_all_above { PutAllAbove }
+    ensures put_all_keeps_kinds { PutAllKeepsKinds }
+    ensures forget_keeps_kinds { ForgetKeepsKinds }
+    ensures can_by_kinds { CanByKinds }
+    ensures put_all_is_known { PutAllIsKnown }
+    ensures forget_below { ForgetBelow }
+    ensures forget_above { ForgetAbove }
+    ensures forget_off_stack { ForgetOffStack }
+    ensures forget_then_forget { ForgetThenForget }
+{}
+
+/// Does nothing: its clauses are the laws of two memories that are the same outside a range.
+pub fn same_memory_laws()
+    ensures can_in_same { CanInSame }
+    ensures known_in_same { KnownInSame }
+    ensures same_in_apart { SameInApart }
+    ensures can_apart { CanApart }
+    ensures known_apart { KnownApart }
+    ensures put_keeps_same { PutKeepsSame }
+    ensures put_all_keeps_same { PutAllKeepsSame }
+    ensures forget_keeps_same { ForgetKeepsSame }
+    ensures stack_keeps_same { StackKeepsSame }
+    ensures put_all_within { PutAllWithin }
 {}
 
 /// Does nothing: its clauses are runs of small programs, each computed by the definitions.
