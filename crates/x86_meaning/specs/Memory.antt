@@ -1,5 +1,5 @@
 -- The memory of the machine: at each address a byte that is mapped, known or not, or nothing.
-use Rattle.std.specs.Prelude.{ℕ, zero, suc, ◌+◌, ◌-◌, ◌*◌, ◌/◌, ◌==◌, ◌&&◌, Bool, true, false, cond, leb, ltb, List, [], ◌∷◌, length, slice_index, Option, Some, None}
+use Rattle.std.specs.Prelude.{◌≡◌, ◌⊎◌, ℕ, zero, suc, ◌+◌, ◌-◌, ◌*◌, ◌/◌, ◌<◌, ◌≤◌, ◌==◌, ◌&&◌, Bool, true, false, cond, leb, ltb, List, [], ◌∷◌, length, slice_index, Option, Some, None}
 use Rattle.std.specs.Option.{option_map}
 use Rattle.x86_values.specs.declared.byte.Byte.{Byte}
 use Rattle.x86_values.specs.declared.byte.Byte.TheVariants.{Known, Unspecified}
@@ -80,3 +80,21 @@ with_stack esp0 bytes m a =
     cond (leb (stack_start esp0) a && ltb a (esp0 + length bytes))
     (Some (record { byte = cond (ltb a esp0) Unspecified (Known (slice_index bytes (a - esp0))); can_write = true; on_stack = true }))
     (m a)
+
+-- what is asked of an access: whether a place is mapped, can be written, is on the stack
+abbrev pub kind_of : Option Place → Option (Bool × Bool)
+kind_of None = None
+kind_of (Some p) = Some (p.can_write, p.on_stack)
+
+-- two memories have the same place at each address outside [low, high)
+pub record SameOutside (low high : ℕ) (m n : Memory) : Type 0 where
+  pub below : (a : ℕ) → a < low → m a ≡ n a
+  pub above : (a : ℕ) → high ≤ a → m a ≡ n a
+
+-- a range of so many addresses doesn't meet [low, high)
+abbrev pub IsApart : ℕ → ℕ → ℕ → ℕ → Type 0
+IsApart low high at count = (at + count ≤ low) ⊎ (high ≤ at)
+
+-- two memories have the same places in a range
+pub record SameIn (at count : ℕ) (m n : Memory) : Type 0 where
+  pub places : (k : ℕ) → k < count → m (at + k) ≡ n (at + k)

@@ -3,9 +3,14 @@
 #![tactic(auto)]
 
 mod instr;
+mod laws;
 mod spelling;
 mod state;
 
 pub use instr::{Instr, Reg};
+pub use laws::{memory_laws, run_laws, same_memory_laws, spelling_laws, worked_runs};
 pub use spelling::front;
 pub use state::Cpu;
+
+#[cfg(test)]
+mod tests;

@@ -1,6 +1,6 @@
 // Which instruction the front of some bytes spells.
 ghost use Rattle.std.specs.Prelude.{◌≡◌};
-ghost use Rattle.x86_meaning.specs.Spells.{front, mov_of};
+ghost use Rattle.x86_meaning.specs.Spells.{front, mov_of, sign_extended};
 
 use crate::{Instr, Reg};
 
@@ -20,20 +20,13 @@ pub fn front(bytes: &[u8]) -> Option<(Instr, u8)>
         [190, rest @ ..] => mov(Reg::Esi, rest),
         [191, rest @ ..] => mov(Reg::Edi, rest),
         [205, 128, ..] => Some((Instr::Int80, 2)),
-        [233, a, b, c, d, ..] => Some((
-            Instr::Jmp {
-                by: u32::from_le_bytes([*a, *b, *c, *d]),
-            },
-            5,
-        )),
-        [235, a, ..] => {
-            let a = *a as u32;
-            Some((
-                Instr::Jmp {
-                    by: if a < 128 { a } else { 4294967040 + a },
-                },
-                2,
-            ))
+        [233, a, b, c, d, ..] => {
+            let by = u32::from_le_bytes([*a, *b, *c, *d]);
+            Some((Instr::Jmp { by }, 5))
+        }
+        [235, rel8, ..] => {
+            let by = sign_extended(*rel8);
+            Some((Instr::Jmp { by }, 2))
         }
         _ => None,
     }
@@ -43,13 +36,17 @@ fn mov(to: Reg, bytes: &[u8]) -> Option<(Instr, u8)>
     ensures { result ≡ mov_of to bytes.now }
 {
     match bytes {
-        [a, b, c, d, ..] => Some((
-            Instr::Mov {
-                to,
-                from: u32::from_le_bytes([*a, *b, *c, *d]),
-            },
-            5,
-        )),
+        [a, b, c, d, ..] => {
+            let from = u32::from_le_bytes([*a, *b, *c, *d]);
+            Some((Instr::Mov { to, from }, 5))
+        }
         _ => None,
     }
+}
+
+fn sign_extended(byte: u8) -> u32
+    ensures { result ≡ sign_extended byte }
+{
+    let low = u32::from(byte);
+    if low < 128 { low } else { 4294967040 + low }
 }

@@ -1,0 +1,4 @@
+pub mod Spellings
+pub mod Memories
+pub mod Moves
+pub mod Rows

@@ -1,0 +1,138 @@
+-- What each move of the machine shows, and how it ends.
+use Rattle.std.proofs.Common.{◌≡◌, ℕ, ◌≢◌, Bool, true, false, cond, List, [], Option, Some, None, refl, ◌==◌}
+use Rattle.x86_values.specs.declared.answer.Answer.{Answer}
+use Rattle.x86_values.specs.declared.answer.Answer.TheVariants.{Take, Fail}
+use Rattle.x86_values.specs.Words.{known, known_byte}
+use Rattle.traces.specs.Trace.{Label, End, Guard, Stopped, GuardKind, Move, Stand, Go, Halt, Grows, turns}
+use Rattle.traces.specs.Turns.{Paced, Ticks}
+use Rattle.traces.specs.Plain.{NeverStops}
+use Rattle.traces.specs.Machines.{marked, turned, Unturned, EndsIn}
+use Rattle.traces.proofs.Runs.{run_grows, ends_in}
+use Rattle.traces.proofs.Adapt.{turned_ticks, turned_paced}
+use Rattle.x86_meaning.specs.declared.instr.Instr.{Instr}
+use Rattle.x86_meaning.specs.declared.instr.Instr.TheVariants.{Mov, Jmp, Int80}
+use Rattle.x86_meaning.specs.declared.state.Cpu.{Cpu}
+use Rattle.x86_meaning.specs.Memory.{Memory}
+use Rattle.x86_meaning.specs.SystemCall.{Request, Environment, Called, Ends, Gives, Plan, Refused, Stops, Asks, read_plan, write_plan, read_by, write_by, reads, writes, read_call, write_call, exit_call, transfer, call_by, system_call, next_answer}
+use Rattle.x86_meaning.specs.Step.{State, Code, reg_at, settled_by, settled, after_call, step, step_at, next}
+use Rattle.x86_meaning.specs.Run.{run_from}
+
+-- neither a stop nor a guard event
+abbrev pub IsOwn : End → Type 0
+IsOwn (Stopped a) = ⊥
+IsOwn (Guard k a) = ⊥
+IsOwn e = Unit {0}
+
+-- a move of the machine begins no turn, and ends with an end of its own
+pub record IsPlain (m : Move State) : Type 0 where
+  pub unturned : Unturned m
+  pub own : EndsIn IsOwn m
+
+-- the same of what a call comes to
+abbrev pub IsPlainCall : Called → Type 0
+IsPlainCall (Ends e) = IsOwn e
+IsPlainCall (Gives ls r m left) = turns ls ≡ 0
+
+settled_plain : (ls : List Label) (s : State) → turns ls ≡ 0 → IsPlain (settled ls s)
+unfolding settled
+settled_plain ls s h = cases (known (reg_at s.cpu 4))
+  where
+    cases : (o : Option ℕ) → IsPlain (settled_by o ls s)
+    cases None = record { unturned = h; own = tt }
+    cases (Some esp) = record { unturned = h; own = tt }
+
+read_by_plain : (x : Answer) (fd at n : ℕ) (m : Memory) (left : Environment) → IsPlainCall (read_by x fd at n m left)
+read_by_plain (Take k) fd at n m left = refl
+read_by_plain (Fail e) fd at n m left = refl
+
+write_by_plain : (x : Answer) (fd : ℕ) (bytes : List ℕ) (m : Memory) (left : Environment) → IsPlainCall (write_by x fd bytes m left)
+write_by_plain (Take k) fd bytes m left = refl
+write_by_plain (Fail e) fd bytes m left = refl
+
+reads_plain : (p : Plan ℕ) (fd at : ℕ) (m : Memory) (left : Environment) → IsPlainCall (reads p fd at m left)
+reads_plain (Refused r) fd at m left = refl
+reads_plain Stops fd at m left = tt
+reads_plain (Asks n) fd at m left = read_by_plain (next_answer left.answers) fd at n m left
+
+writes_plain : (p : Plan (List ℕ)) (fd : ℕ) (m : Memory) (left : Environment) → IsPlainCall (writes p fd m left)
+writes_plain (Refused r) fd m left = refl
+writes_plain Stops fd m left = tt
+writes_plain (Asks bytes) fd m left = write_by_plain (next_answer left.answers) fd bytes m left
+
+transfer_plain : (call : ℕ → ℕ → ℕ → Memory → Environment → Called) → ((fd at n : ℕ) (m : Memory) (left : Environment) → IsPlainCall (call fd at n m left)) → (fd at n : Option ℕ) (m : Memory) (left : Environment) → IsPlainCall (transfer call fd at n m left)
+transfer_plain call h (Some fd) (Some at) (Some n) m left = h fd at n m left
+transfer_plain call h None at n m left = tt
+transfer_plain call h (Some fd) None n m left = tt
+transfer_plain call h (Some fd) (Some at) None m left = tt
+
+read_plain : (fd at n : ℕ) (m : Memory) (left : Environment) → IsPlainCall (read_call fd at n m left)
+unfolding read_call
+read_plain fd at n m left = reads_plain (read_plan m fd at n) fd at m left
+
+write_plain : (fd at n : ℕ) (m : Memory) (left : Environment) → IsPlainCall (write_call fd at n m left)
+unfolding write_call
+write_plain fd at n m left = writes_plain (write_plan m fd at n) fd m left
+
+exit_plain : (o : Option ℕ) → IsPlainCall (exit_call o)
+exit_plain None = tt
+exit_plain (Some status) = tt
+
+one_of_two : (b : Bool) (x y : Called) → IsPlainCall x → IsPlainCall y → IsPlainCall (cond b x y)
+one_of_two true x y p q = p
+one_of_two false x y p q = q
+
+call_plain : (o : Option ℕ) (q : Request) (m : Memory) (left : Environment) → IsPlainCall (call_by o q m left)
+call_plain None q m left = tt
+call_plain (Some n) q m left =
+    one_of_two (n == 1) _ _ (exit_plain (known_byte q.fd.b0))
+    (one_of_two (n == 3) _ _ (transfer_plain read_call read_plain (known q.fd) (known q.at) (known q.count) m left)
+    (one_of_two (n == 4) _ _ (transfer_plain write_call write_plain (known q.fd) (known q.at) (known q.count) m left) tt))
+
+system_plain : (q : Request) (m : Memory) (left : Environment) → IsPlainCall (system_call q m left)
+unfolding system_call
+system_plain q m left = call_plain (known q.number) q m left
+
+after_plain : (x : Called) (cpu : Cpu) → IsPlainCall x → IsPlain (after_call x cpu)
+after_plain (Ends e) cpu h = record { unturned = refl; own = h }
+after_plain (Gives ls r m left) cpu h = settled_plain ls _ h
+
+step_plain : (i : Instr) (len : ℕ) (s : State) → IsPlain (step i len s)
+unfolding step
+step_plain (Mov to from) len s = settled_plain [] _ refl
+step_plain (Jmp by) len s = settled_plain [] _ refl
+step_plain Int80 len s = after_plain _ _ (system_plain _ s.memory s.left)
+
+pub next_plain : (code : Code) (s : State) → IsPlain (next code s)
+unfolding next
+next_plain code s = cases (code s.cpu.eip)
+  where
+    cases : (o : Option (Instr × ℕ)) → IsPlain (step_at o s)
+    cases None = record { unturned = refl; own = tt }
+    cases (Some p) = step_plain p.0 p.1 s
+
+turned_own : (a : ℕ) (m : Move State) → EndsIn IsOwn m → EndsIn IsOwn (marked a m)
+turned_own a (Stand ls e) h = h
+turned_own a (Go ls s) h = h
+turned_own a (Halt ls e) h = h
+
+run_own : (code : Code) (s : State) (n : ℕ) (e : End) → (run_from code s n).end ≡ Some e → IsOwn e
+unfolding run_from
+run_own code s n e h = ends_in (turned (λ t. t.cpu.eip) (next code)) IsOwn (λ t. turned_own t.cpu.eip (next code t) (next_plain code t).own) n s e h
+
+pub grows : (code : Code) (s : State) → Grows (run_from code s)
+unfolding run_from
+grows code s = run_grows (turned (λ t. t.cpu.eip) (next code)) s
+
+pub never_stops : (code : Code) (s : State) → NeverStops (run_from code s)
+never_stops code s n a h = run_own code s n (Stopped a) h
+
+pub no_guard : (code : Code) (s : State) (n : ℕ) (k : GuardKind) (a : ℕ) → (run_from code s n).end ≢ Some (Guard k a)
+no_guard code s n k a h = run_own code s n (Guard k a) h
+
+pub ticks : (code : Code) (s : State) → Ticks (run_from code s)
+unfolding run_from
+ticks code s = turned_ticks (λ t. t.cpu.eip) (next code) (λ t. (next_plain code t).unturned) s
+
+pub paced : (code : Code) (s : State) → Paced 1 (run_from code s)
+unfolding run_from
+paced code s = turned_paced (λ t. t.cpu.eip) (next code) (λ t. (next_plain code t).unturned) s
