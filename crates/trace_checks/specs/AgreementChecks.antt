@@ -5,6 +5,7 @@ use Rattle.traces.specs.Agree.{Covers, Follows}
 use Rattle.traces.specs.Plain.{AgreePlainly}
 use Rattle.trace_checks.specs.Played.{played, played_on, counted, repeat, alternate, one, two}
 
+-- agreement with the numbers of the written file
 abbrev pub Agreed : Behaviour → Behaviour → Type 0
 Agreed C R = AgreePlainly 4096 256 C R
 

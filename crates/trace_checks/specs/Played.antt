@@ -7,6 +7,7 @@ abbrev pub play : End → List (List Label) → Move (List (List Label))
 play e [] = Stand [] e
 play e (ls ∷ rest) = Go ls rest
 
+-- its run
 abbrev pub played : List (List Label) → End → Behaviour
 played ls e = run (play e) ls
 
@@ -15,6 +16,7 @@ abbrev pub play_on : List (List Label) → Move (List (List Label))
 play_on [] = Go [] []
 play_on (ls ∷ rest) = Go ls rest
 
+-- its run
 abbrev pub played_on : List (List Label) → Behaviour
 played_on ls = run play_on ls
 
@@ -23,6 +25,7 @@ abbrev pub count_down : End → ℕ → Move ℕ
 count_down e zero = Stand [] e
 count_down e (suc n) = Go [] n
 
+-- its run
 abbrev pub counted : ℕ → End → Behaviour
 counted n e = run (count_down e) n
 
@@ -35,8 +38,10 @@ abbrev pub alternate : List Label → ℕ → Move ℕ
 alternate ls zero = Go [] 1
 alternate ls (suc n) = Go ls 0
 
+-- a write of one byte
 abbrev pub one : Label
 one = Made (Write 1 (7 ∷ []) 1)
 
+-- a write of another byte
 abbrev pub two : Label
 two = Made (Write 1 (8 ∷ []) 1)
