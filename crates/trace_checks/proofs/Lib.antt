@@ -1,0 +1,4 @@
+pub mod Turns
+pub mod Agreement
+pub mod Ends
+pub mod Weight

@@ -1,0 +1,117 @@
+-- Small runs by turns.
+use Rattle.std.proofs.Common.{◌≡◌, ◌<◌, ◌≤◌, ℕ, zero, suc, List, [], ◌∷◌, ◌++◌, length, Option, Some, None, refl, sym, ap, ◌∙◌, arith, inl, inr, ⊎_elim, length-append}
+use Rattle.traces.specs.Trace.{Label, Turn, Code, End, Exited, Unspecified, Stopped, Behaviour, Grows, run, seen, events, turns}
+use Rattle.traces.specs.Turns.{within_turns, ShowsByTurns, SameByTurns, SameWithin, Moment, Reached}
+use Rattle.traces.proofs.Runs.{run_grows}
+use Rattle.traces.proofs.Turns.{shows_once}
+use Rattle.trace_checks.specs.Played.{play, played, one, two}
+use Rattle.trace_checks.specs.TurnChecks.{RefusesMovedEvent, RefusesOtherAddress, RefusesLostMoment, RefusesLateGuard, RefusesEarlyReport, AllowsSplitEvents, AllowsLongTurn}
+
+grows : (ls : List (List Label)) (e : End) → Grows (played ls e)
+grows ls e = run_grows (play e) ls
+
+-- what is seen of both within n turns is one
+both : (U V : Behaviour) → Grows U → Grows V → (n : ℕ) (ls ls' : List Label) (o o' : Option End) → (o ≡ Some Unspecified → ⊥) → SameByTurns U V → ShowsByTurns U n (seen ls o) → ShowsByTurns V n (seen ls' o') → ls ≡ ls'
+both U V g h n ls ls' o o' d p u v =
+    let c = p.same n in
+    let e = shows_once U g n c.common (seen ls o) c.first u in
+    let f = shows_once V h n c.common (seen ls' o') (c.second (λ z. d (sym (ap (λ s. s.end) e) ∙ z))) v in
+    ap (λ s. s.trace) (sym e ∙ f)
+
+pub refuses_moved_event : RefusesMovedEvent
+unfolding run
+refuses_moved_event p = let e = both _ _ (grows _ _) (grows _ _) 1 (Turn 1 ∷ one ∷ []) (Turn 1 ∷ []) None None (λ z. cc) p (record { steps = 3; past = inr (omega arith); shown = refl }) (record { steps = 2; past = inr (omega arith); shown = refl }) in cc
+
+pub refuses_other_address : RefusesOtherAddress
+unfolding run
+refuses_other_address p = let e = both _ _ (grows _ _) (grows _ _) 2 (Turn 1 ∷ Turn 2 ∷ []) (Turn 1 ∷ Turn 3 ∷ []) (Some (Exited 0)) (Some (Exited 0)) (λ z. cc) p (record { steps = 2; past = inl (λ z. cc); shown = refl }) (record { steps = 2; past = inl (λ z. cc); shown = refl }) in cc
+
+lost : (k : ℕ) → events (played ((Turn 1 ∷ one ∷ two ∷ []) ∷ []) (Exited 0) k).trace ≡ events (one ∷ []) → ⊥
+unfolding run
+lost zero e = cc
+lost (suc zero) e = cc
+lost (suc (suc k)) e = cc
+
+pub refuses_lost_moment : RefusesLostMoment
+unfolding run
+refuses_lost_moment p = let m = p.moments 1 in lost m.steps m.exact
+
+pub refuses_late_guard : RefusesLateGuard
+unfolding run
+refuses_late_guard p =
+    let g = p.guard 0 Code 5 refl in
+    let s : ShowsByTurns (played ((Turn 5 ∷ []) ∷ (Turn 5 ∷ []) ∷ []) (Stopped 5)) 1 (seen (Turn 5 ∷ []) None) = record { steps = 2; past = inr (omega arith); shown = refl } in
+    let e = ap (λ x. x.end) (shows_once _ (grows _ _) 1 _ _ g.shows s) in
+    cc
+
+early : (front report : List Label) → length report ≡ 1 → (Turn 4 ∷ one ∷ []) ≡ front ++ report → (Turn 4 ∷ one ∷ Turn 5 ∷ []) ≡ front ++ Turn 5 ∷ report → ⊥
+early [] report h e f = cc
+early (x ∷ []) report h e f = cc
+early (x ∷ y ∷ front) report h e f = absurd (omega (arith, h, ap length e, length-append front report))
+
+pub refuses_early_report : RefusesEarlyReport
+unfolding run
+refuses_early_report p =
+    let g = p.guard 2 Code 5 refl in
+    let s : ShowsByTurns (played ((Turn 4 ∷ []) ∷ (one ∷ []) ∷ (Turn 5 ∷ []) ∷ []) (Stopped 5)) 3 (seen (Turn 4 ∷ one ∷ Turn 5 ∷ []) (Some (Stopped 5))) = record { steps = 3; past = inl (λ z. cc); shown = refl } in
+    let e = ap (λ x. x.trace) (shows_once _ (grows _ _) 3 _ _ s g.shows) in
+    ⊎_elim (λ h. let q = e ∙ h in cc) (λ k. early k.front k.report k.shown k.cut (e ∙ k.stop)) g.fits
+
+pub allows_split_events : AllowsSplitEvents
+unfolding run
+allows_split_events = record { same = same; moments = moments }
+  where
+    U : Behaviour
+    U = played ((Turn 1 ∷ one ∷ two ∷ []) ∷ []) (Exited 0)
+
+    V : Behaviour
+    V = played ((Turn 1 ∷ []) ∷ (one ∷ []) ∷ (two ∷ []) ∷ []) (Exited 0)
+
+    same : (n : ℕ) → SameWithin U V n
+    same zero = record { common = seen [] None; first = record { steps = 1; past = inr (omega arith); shown = refl }; second = λ d. record { steps = 3; past = inr (omega arith); shown = refl } }
+    same (suc n) = record { common = seen (Turn 1 ∷ one ∷ two ∷ []) (Some (Exited 0)); first = record { steps = 1; past = inl (λ z. cc); shown = refl }; second = λ d. record { steps = 3; past = inl (λ z. cc); shown = refl } }
+
+    moments : (k : ℕ) → Moment V (turns (U k).trace) (events (U k).trace)
+    moments zero = record { steps = 0; few = omega arith; exact = refl }
+    moments (suc zero) = record { steps = 3; few = omega arith; exact = refl }
+    moments (suc (suc k)) = record { steps = 3; few = omega arith; exact = refl }
+
+pub allows_long_turn : AllowsLongTurn
+unfolding run
+allows_long_turn = record { at_most = at_most; reached = reached; moment = moment }
+  where
+    R : Behaviour
+    R = played ((Turn 1 ∷ []) ∷ (Turn 2 ∷ []) ∷ [] ∷ [] ∷ []) (Exited 0)
+
+    at_most : (k : ℕ) → turns (R k).trace ≤ k
+    at_most zero = omega arith
+    at_most (suc zero) = omega arith
+    at_most (suc (suc zero)) = omega arith
+    at_most (suc (suc (suc zero))) = omega arith
+    at_most (suc (suc (suc (suc zero)))) = omega arith
+    at_most (suc (suc (suc (suc (suc k))))) = omega arith
+
+    reached : (k : ℕ) → Reached 2 R k
+    reached zero = record { steps = 0; few = omega arith; same = refl; running = λ h. refl }
+    reached (suc zero) = record { steps = 1; few = omega arith; same = refl; running = λ h. refl }
+    reached (suc (suc zero)) = record { steps = 2; few = omega arith; same = refl; running = λ h. refl }
+    reached (suc (suc (suc zero))) = record { steps = 3; few = omega arith; same = refl; running = λ h. refl }
+    reached (suc (suc (suc (suc zero)))) = record { steps = 4; few = omega arith; same = refl; running = λ h. cc }
+    reached (suc (suc (suc (suc (suc k))))) = record { steps = 4; few = omega arith; same = refl; running = λ h. cc }
+
+    moment : (k n : ℕ) → n < turns (R k).trace → (j : ℕ) × (R j ≡ within_turns n (R k))
+    moment zero n h = absurd (omega (arith, h))
+    moment (suc zero) zero h = (0, refl)
+    moment (suc zero) (suc n) h = absurd (omega (arith, h))
+    moment (suc (suc zero)) zero h = (0, refl)
+    moment (suc (suc zero)) (suc zero) h = (1, refl)
+    moment (suc (suc zero)) (suc (suc n)) h = absurd (omega (arith, h))
+    moment (suc (suc (suc zero))) zero h = (0, refl)
+    moment (suc (suc (suc zero))) (suc zero) h = (1, refl)
+    moment (suc (suc (suc zero))) (suc (suc n)) h = absurd (omega (arith, h))
+    moment (suc (suc (suc (suc zero)))) zero h = (0, refl)
+    moment (suc (suc (suc (suc zero)))) (suc zero) h = (1, refl)
+    moment (suc (suc (suc (suc zero)))) (suc (suc n)) h = absurd (omega (arith, h))
+    moment (suc (suc (suc (suc (suc k))))) zero h = (0, refl)
+    moment (suc (suc (suc (suc (suc k))))) (suc zero) h = (1, refl)
+    moment (suc (suc (suc (suc (suc k))))) (suc (suc n)) h = absurd (omega (arith, h))

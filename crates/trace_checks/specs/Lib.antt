@@ -1,0 +1,5 @@
+pub mod Played
+pub mod TurnChecks
+pub mod AgreementChecks
+pub mod EndingChecks
+pub mod WeightChecks

@@ -1,0 +1,43 @@
+ghost use Rattle.trace_checks.specs.AgreementChecks.{AllowsAnythingAfterUnspecified, AllowsOutsideAtGuard, AllowsSlowExit, RefusesDroppedBeforeUnspecified, RefusesDroppedEvent, RefusesEarlyEnd, RefusesEndlessRun, RefusesExitAtGuard, RefusesExtraEvent, RefusesOtherEvent, RefusesOtherStatus, RefusesSlowExit, RefusesStepLeftOut};
+ghost use Rattle.trace_checks.specs.EndingChecks.{CountingEnds, ReportingEnds};
+ghost use Rattle.trace_checks.specs.TurnChecks.{AllowsLongTurn, AllowsSplitEvents, RefusesEarlyReport, RefusesLateGuard, RefusesLostMoment, RefusesMovedEvent, RefusesOtherAddress};
+ghost use Rattle.trace_checks.specs.WeightChecks.{WalkPaced};
+
+/// Does nothing: its clauses say what agreement within `4096 * n + 256` steps refuses and lets pass.
+pub fn agreement_checks()
+    ensures refuses_dropped_event { RefusesDroppedEvent }
+    ensures refuses_other_event { RefusesOtherEvent }
+    ensures refuses_early_end { RefusesEarlyEnd }
+    ensures refuses_endless_run { RefusesEndlessRun }
+    ensures refuses_other_status { RefusesOtherStatus }
+    ensures refuses_extra_event { RefusesExtraEvent }
+    ensures refuses_dropped_before_unspecified { RefusesDroppedBeforeUnspecified }
+    ensures refuses_exit_at_guard { RefusesExitAtGuard }
+    ensures refuses_slow_exit { RefusesSlowExit }
+    ensures allows_anything_after_unspecified { AllowsAnythingAfterUnspecified }
+    ensures allows_outside_at_guard { AllowsOutsideAtGuard }
+    ensures allows_slow_exit { AllowsSlowExit }
+    ensures refuses_step_left_out { RefusesStepLeftOut }
+{}
+
+/// Does nothing: its clauses say what the relations by turns refuse and let pass.
+pub fn turn_checks()
+    ensures refuses_moved_event { RefusesMovedEvent }
+    ensures refuses_other_address { RefusesOtherAddress }
+    ensures refuses_lost_moment { RefusesLostMoment }
+    ensures refuses_late_guard { RefusesLateGuard }
+    ensures refuses_early_report { RefusesEarlyReport }
+    ensures allows_split_events { AllowsSplitEvents }
+    ensures allows_long_turn { AllowsLongTurn }
+{}
+
+/// Does nothing: its clauses say that reports and counts are endings.
+pub fn ending_checks()
+    ensures reporting_ends { ReportingEnds }
+    ensures counting_ends { CountingEnds }
+{}
+
+/// Does nothing: its clause says that a turn may go over several blocks.
+pub fn weight_checks()
+    ensures walk_paced { WalkPaced }
+{}

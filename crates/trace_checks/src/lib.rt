@@ -1,0 +1,6 @@
+//! What the relations between runs refuse and what they let pass, shown by small machines.
+#![tactic(auto)]
+
+mod checks;
+
+pub use checks::{agreement_checks, ending_checks, turn_checks, weight_checks};
