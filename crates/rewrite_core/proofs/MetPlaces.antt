@@ -1,18 +1,15 @@
 -- Which places a run can meet: those of the straight list.
-use Rattle.std.proofs.Common.{◌≡◌, ◌≢◌, ◌⊎◌, ℕ, zero, suc, ◌+◌, ◌-◌, ◌<◌, ◌≤◌, ◌&&◌, Bool, true, false, not, leb, ltb, List, [], ◌∷◌, length, take, drop, Option, Some, None, refl, sym, ap, ◌∙◌, subst, inl, inr, arith, length-drop, add_assoc}
+use Rattle.std.proofs.Common.{◌≡◌, ◌≢◌, ℕ, zero, suc, ◌+◌, ◌<◌, ◌≤◌, ◌&&◌, true, false, not, leb, List, [], ◌∷◌, length, drop, Option, Some, None, refl, sym, ap, ◌∙◌, subst, inl, inr, arith, length-drop, add_assoc}
 use Rattle.std.proofs.lemmas.List.{drop-drop}
-use Rattle.std.proofs.lemmas.Bool.{leb-true, le-leb}
 use Rattle.std.proofs.lemmas.Bool.Decides.{leb_tells}
 use Rattle.elf_image.specs.declared.image.Image.{Image}
 use Rattle.elf_image.specs.Image.{code_byte_at}
-use Rattle.x86_meaning.specs.declared.instr.Reg.{Reg}
 use Rattle.x86_meaning.specs.declared.instr.Instr.{Instr}
 use Rattle.x86_meaning.specs.declared.instr.Instr.TheVariants.{Mov, Jmp, Int80}
 use Rattle.x86_meaning.specs.Spells.{front}
 use Rattle.x86_meaning.specs.Run.{code_of}
-use Rattle.rewrite_core.specs.declared.straight.Judgement.{Judgement}
 use Rattle.rewrite_core.specs.declared.straight.Judgement.TheVariants.{GoesOn, Ends, LeftOut}
-use Rattle.rewrite_core.specs.Met.{Met, entry, after_mov, after_call, target, is_taken_byte, IsApart, IsTaken}
+use Rattle.rewrite_core.specs.Met.{Met, entry, after_mov, after_call, target, IsApart, IsTaken}
 use Rattle.rewrite_core.specs.Straight.{judged, and_more, straight_length, is_apart}
 use Rattle.rewrite_core.proofs.Fronts.{first_of, judged_within, taken_first, goes_mov, goes_call, jump_is_left, GoesBy, by_mov, by_call, goes_by, LeftBy, by_first, by_constant, left_by}
 use Rattle.rewrite_core.proofs.Straights.{straight_on, straight_ends, straight_none}

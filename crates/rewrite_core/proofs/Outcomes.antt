@@ -1,5 +1,5 @@
 -- What the reading of a file and its straight list say of its rewriting.
-use Rattle.std.proofs.Common.{◌≡◌, ◌≢◌, ℕ, ◌+◌, ◌-◌, ◌<◌, ◌≤◌, ◌==◌, ◌&&◌, Bool, true, false, not, cond, ltb, List, [], ◌∷◌, ◌++◌, length, take, drop, get_or, min, Option, Some, None, Ok, refl, sym, ap, ◌∙◌, subst, inl, inr, arith, length-drop, length-take, length-append}
+use Rattle.std.proofs.Common.{◌≡◌, ℕ, ◌+◌, ◌≤◌, ◌==◌, ◌&&◌, Bool, true, false, not, cond, ltb, List, length, take, drop, get_or, min, Option, Some, None, refl, sym, ap, ◌∙◌, subst, inl, inr, arith, length-drop, length-take, length-append}
 use Rattle.std.proofs.lemmas.Bool.{ltb-true, ltb-false}
 use Rattle.std.proofs.lemmas.Bool.Decides.{eqb_tells}
 use Rattle.elf_image.specs.declared.image.Image.{Image}
@@ -9,7 +9,7 @@ use Rattle.elf_image.specs.declared.refusal.Refusal.TheVariants.{Short, Magic, N
 use Rattle.elf_image.specs.Fields.{has_magic}
 use Rattle.elf_image.specs.Refusals.{first}
 use Rattle.elf_image.specs.Plain.{is_plain, plain_tests, plain_image}
-use Rattle.rewrite_core.specs.Met.{IsTaken, IsRewritable}
+use Rattle.rewrite_core.specs.Met.{IsRewritable}
 use Rattle.rewrite_core.specs.Straight.{straight_length, straight_code, stop}
 use Rattle.rewrite_core.specs.Rewrites.{text_of, IsRefused}
 use Rattle.rewrite_core.proofs.MetPlaces.{is_taken, has_list}

@@ -1,13 +1,11 @@
 -- The code of a plain file is its one page.
-use Rattle.std.proofs.Common.{◌≡◌, ◌⊎◌, ℕ, zero, suc, ◌+◌, ◌-◌, ◌<◌, ◌≤◌, ◌&&◌, Bool, true, false, cond, leb, ltb, List, [], ◌∷◌, length, take, drop, get_or, Option, Some, None, refl, sym, ap, ◌∙◌, subst, inl, inr, ⊎_elim, arith, length-drop, length-take, add-one}
+use Rattle.std.proofs.Common.{◌≡◌, ◌⊎◌, ℕ, zero, suc, ◌+◌, ◌-◌, ◌<◌, ◌≤◌, true, List, ◌∷◌, length, take, drop, get_or, Some, refl, sym, ap, ◌∙◌, ⊎_elim, arith, add-one}
 use Rattle.std.proofs.Math.Seq.{drop-cons}
 use Rattle.std.proofs.lemmas.List.{drop_all}
 use Rattle.std.proofs.lemmas.Bool.{le-leb}
-use Rattle.std.proofs.lemmas.Bool.Decides.{leb_tells}
 use Rattle.elf_image.specs.declared.image.Image.{Image}
-use Rattle.elf_image.specs.declared.image.Segment.{Segment}
-use Rattle.elf_image.specs.Image.{segment_at, holds, byte_in, code_byte_in, code_byte_at, code_bytes, then_code}
-use Rattle.elf_image.specs.Plain.{plain_image, text_segment, room_segment}
+use Rattle.elf_image.specs.Image.{segment_at, holds, code_byte_in, code_byte_at, code_bytes, then_code}
+use Rattle.elf_image.specs.Plain.{plain_image, text_segment}
 use Rattle.x86_meaning.specs.Spells.{front}
 use Rattle.x86_meaning.specs.Run.{code_of}
 use Rattle.rewrite_core.specs.Rewrites.{text_of}
@@ -28,14 +26,14 @@ code_bytes-page image page base is (suc n) k h =
     let cases : (k < length page) ⊎ (length page ≤ k) = grind arith in
     ⊎_elim
     (λ lt.
-        let next : base + k + 1 ≡ base + (k + 1) = omega arith in
-        ap (λ o. then_code o (code_bytes image (base + k + 1) n)) (is k h ∙ first-drop page k lt)
-        ∙ ap (λ a. get_or page k 0 ∷ code_bytes image a n) next
-        ∙ ap (λ bs. get_or page k 0 ∷ bs) (code_bytes-page image page base is n (k + 1) (omega arith))
-        ∙ sym (ap (take (suc n)) (drop-cons page k 0 lt) ∙ ap (λ m. get_or page k 0 ∷ take n (drop m page)) (sym (add-one k))))
+    let next : base + k + 1 ≡ base + (k + 1) = omega arith in
+    ap (λ o. then_code o (code_bytes image (base + k + 1) n)) (is k h ∙ first-drop page k lt)
+    ∙ ap (λ a. get_or page k 0 ∷ code_bytes image a n) next
+    ∙ ap (λ bs. get_or page k 0 ∷ bs) (code_bytes-page image page base is n (k + 1) (omega arith))
+    ∙ sym (ap (take (suc n)) (drop-cons page k 0 lt) ∙ ap (λ m. get_or page k 0 ∷ take n (drop m page)) (sym (add-one k))))
     (λ le.
-        let end = drop_all k page le in
-        ap (λ o. then_code o (code_bytes image (base + k + 1) n)) (is k h ∙ ap first_of end) ∙ sym (ap (take (suc n)) end))
+    let end = drop_all k page le in
+    ap (λ o. then_code o (code_bytes image (base + k + 1) n)) (is k h ∙ ap first_of end) ∙ sym (ap (take (suc n)) end))
     cases
 
 module _ (file : List ℕ) (whole : length (text_of file) ≡ 4096) where
@@ -48,9 +46,9 @@ module _ (file : List ℕ) (whole : length (text_of file) ≡ 4096) where
       let cases : (k < 4096) ⊎ (k ≡ 4096) = exact_or (omega (arith, whole)) in
       ⊎_elim
       (λ lt.
-          let seg : segment_at (plain_image file) (0x08049000 + k) ≡ Some (text_segment file) = rw (in_text k lt) refl in
-          let place : 0x08049000 + k - 0x08049000 ≡ k = omega arith in
-          ap (code_byte_in (0x08049000 + k)) seg ∙ ap (λ n. Some (get_or (text_of file) n 0)) place ∙ sym (first-drop (text_of file) k (omega (arith, whole))))
+      let seg : segment_at (plain_image file) (0x08049000 + k) ≡ Some (text_segment file) = rw (in_text k lt) refl in
+      let place : 0x08049000 + k - 0x08049000 ≡ k = omega arith in
+      ap (code_byte_in (0x08049000 + k)) seg ∙ ap (λ n. Some (get_or (text_of file) n 0)) place ∙ sym (first-drop (text_of file) k (omega (arith, whole))))
       (λ e. rw e (sym (ap first_of (drop_all 4096 (text_of file) (omega (arith, whole))))))
       cases
 

@@ -1,11 +1,9 @@
 -- What is pushed is the stated file.
-use Rattle.std.proofs.Common.{◌≡◌, ◌⊎◌, ℕ, zero, suc, ◌+◌, ◌-◌, ◌*◌, ◌/◌, ◌%◌, ◌<◌, ◌≤◌, ◌==◌, ◌&&◌, Bool, true, false, cond, not, leb, ltb, List, [], ◌∷◌, ◌++◌, length, take, drop, replicate, get_or, map, find, filter, Option, Some, None, Result, Ok, slice_index, max, refl, sym, ap, ◌∙◌, inl, inr, ⊎_elim, append_assoc, append-nil, add_assoc, arith, length-append}
-use Rattle.std.specs.List.{flat_map, list_any}
-use Rattle.std.proofs.lemmas.List.{length-replicate, length-take-le, length-take, take_at, take-take, take-append-le, drop_at, drop_all, drop_more, get_or-take, get_or_append_left}
-use Rattle.std.proofs.lemmas.Bool.{le-ltb}
-use Rattle.std.proofs.lemmas.Bool.Decides.{leb_tells, nat_tests}
+use Rattle.std.proofs.Common.{◌≡◌, ℕ, ◌+◌, ◌/◌, ◌%◌, ◌≤◌, List, [], ◌∷◌, ◌++◌, length, take, ap, ◌∙◌, append_assoc, append-nil, arith, length-append}
+use Rattle.std.specs.List.{flat_map}
+use Rattle.std.proofs.lemmas.List.{length-take-le}
 use Rattle.elf_image.specs.declared.header.ProgramHeader.{ProgramHeader}
-use Rattle.x86_meaning.specs.Spells.{word_bytes, word4}
+use Rattle.x86_meaning.specs.Spells.{word_bytes}
 use Rattle.rewrite_core.specs.Straight.{straight_code, stop}
 use Rattle.rewrite_core.specs.Layout.{elf_header, header_bytes, segment_header, code_start, new_headers, zeros, new_file}
 

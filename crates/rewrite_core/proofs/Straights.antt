@@ -1,5 +1,5 @@
 -- The straight list, place by place.
-use Rattle.std.proofs.Common.{◌≡◌, ℕ, zero, suc, ◌+◌, ◌-◌, ◌<◌, ◌≤◌, List, [], ◌∷◌, length, take, drop, Option, Some, None, refl, sym, ap, ◌∙◌, subst, arith, length-drop, add_assoc}
+use Rattle.std.proofs.Common.{◌≡◌, ℕ, zero, suc, ◌+◌, ◌≤◌, List, [], ◌∷◌, length, drop, Option, Some, None, refl, sym, ap, ◌∙◌, arith, length-drop, add_assoc}
 use Rattle.rewrite_core.specs.declared.straight.Judgement.{Judgement}
 use Rattle.rewrite_core.specs.declared.straight.Judgement.TheVariants.{GoesOn, Ends, LeftOut}
 use Rattle.rewrite_core.specs.Straight.{judged, and_more, straight_by, straight_in, straight_length}

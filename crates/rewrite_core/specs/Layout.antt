@@ -8,7 +8,7 @@ use Rattle.elf_image.specs.declared.refusal.Room.TheVariants.{Any}
 use Rattle.elf_image.specs.Image.{image_of, code_byte_at, code_bytes}
 use Rattle.elf_image.specs.Plain.{room_segment}
 use Rattle.x86_meaning.specs.Spells.{word_bytes}
-use Rattle.rewrite_core.specs.Straight.{straight_code, stop}
+use Rattle.rewrite_core.specs.Straight.{straight_code}
 
 abbrev pub half_bytes : ℕ → List ℕ
 half_bytes n = n % 256 ∷ n / 256 % 256 ∷ []

@@ -5,7 +5,6 @@ use Rattle.elf_image.specs.Image.{code_byte_at}
 use Rattle.elf_image.specs.Fields.{has_magic}
 use Rattle.elf_image.specs.Plain.{is_plain, plain_image}
 use Rattle.x86_meaning.specs.declared.instr.Reg.{Reg}
-use Rattle.x86_meaning.specs.declared.instr.Instr.{Instr}
 use Rattle.x86_meaning.specs.declared.instr.Instr.TheVariants.{Mov, Jmp, Int80}
 use Rattle.x86_meaning.specs.Run.{code_of}
 

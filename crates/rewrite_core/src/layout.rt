@@ -72,7 +72,14 @@ fn push_header(out: &mut Vec<u8>, h: ProgramHeader) -> Result<(), AllocError>
     push_words(
         out,
         &[
-            h.kind, h.offset, h.address, h.address, h.file_size, h.memory_size, h.flags, 4096,
+            h.kind,
+            h.offset,
+            h.address,
+            h.address,
+            h.file_size,
+            h.memory_size,
+            h.flags,
+            4096,
         ],
     )
 }

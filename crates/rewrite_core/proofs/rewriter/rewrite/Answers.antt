@@ -1,10 +1,10 @@
-use Rattle.std.proofs.Common.{◌≡◌, ℕ, ◌≤◌, length, sym, ap, ◌∙◌, subst, arith, Some, Ok, unwrap_or}
+use Rattle.std.proofs.Common.{◌≡◌, ◌≤◌, length, sym, ap, ◌∙◌, subst, arith, Some, unwrap_or}
 use Rattle.elf_image.specs.declared.refusal.Room.TheVariants.{Any}
 use Rattle.elf_image.specs.Image.{image_of}
 use Rattle.rewrite_core.specs.Straight.{straight_length, straight_code}
-use Rattle.rewrite_core.specs.Layout.{new_file, new_image}
+use Rattle.rewrite_core.specs.Layout.{new_file}
 use Rattle.rewrite_core.specs.Rewrites.{text_of, code_for, rewritten}
-use Rattle.rewrite_core.proofs.Outcomes.{plain_file, reader_refuses, list_refuses, list_takes, length-straight_code, text_is}
+use Rattle.rewrite_core.proofs.Outcomes.{plain_file, list_refuses, list_takes, length-straight_code, text_is}
 use Rattle.rewrite_core.proofs.LayoutLemmas.{new_file_accepted}
 use Rattle.rewrite_core.proofs.rewriter.rewrite.Goals as goal
 

@@ -1,4 +1,4 @@
-use Rattle.std.proofs.Common.{◌≡◌, ◌+◌, ◌≤◌, length, drop, sym, ap, ◌∙◌, arith, length-drop, Some}
+use Rattle.std.proofs.Common.{◌+◌, drop, sym, ap, ◌∙◌, arith, length-drop, Some}
 use Rattle.std.proofs.lemmas.List.{drop-drop, drop_all, take_rest}
 use Rattle.rewrite_core.specs.Straight.{and_more, straight_length}
 use Rattle.rewrite_core.proofs.Fronts.{judged_within}
