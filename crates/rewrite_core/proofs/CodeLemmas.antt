@@ -1,14 +1,13 @@
 -- The bytes of the stated image that can be run are those of the new code.
-use Rattle.std.proofs.Common.{◌≡◌, ◌⊎◌, ℕ, zero, suc, ◌+◌, ◌-◌, ◌*◌, ◌/◌, ◌<◌, ◌≤◌, ◌&&◌, Bool, true, false, cond, leb, ltb, List, [], ◌∷◌, ◌++◌, length, take, drop, replicate, find, Option, Some, None, slice_index, refl, sym, ap, ◌∙◌, inl, inr, ⊎_elim, add_assoc, add-one, arith, length-append, drop-cons}
-use Rattle.std.proofs.lemmas.List.{length-replicate, length-take-le, take-take, take-append-le, drop_all, get_or-take, get_or_append_left}
-use Rattle.std.proofs.lemmas.Bool.{le-ltb}
+use Rattle.std.proofs.Common.{◌≡◌, ◌⊎◌, ℕ, zero, suc, ◌+◌, ◌-◌, ◌<◌, ◌≤◌, Bool, true, false, cond, List, [], ◌∷◌, ◌++◌, length, take, drop, replicate, find, Option, Some, None, slice_index, refl, sym, ap, ◌∙◌, inl, inr, add_assoc, add-one, arith, length-append, drop-cons}
+use Rattle.std.proofs.lemmas.List.{length-replicate, length-take-le, take-take, take-replicate, drop-append-le, take-append-le, drop_all, get_or-take, get_or_append_left}
+use Rattle.std.proofs.Math.Seq.{take-append-add}
 use Rattle.std.proofs.lemmas.Bool.Decides.{nat_tests}
 use Rattle.elf_image.specs.declared.image.Segment.{Segment}
-use Rattle.elf_image.specs.declared.image.Image.{Image}
 use Rattle.elf_image.specs.Image.{holds, segment_at, code_byte_in, code_byte_at, code_bytes, then_code}
 use Rattle.elf_image.specs.Plain.{room_segment}
 use Rattle.rewrite_core.specs.Straight.{straight_code}
-use Rattle.rewrite_core.specs.Layout.{code_start, whole_pages, in_pages, kept_segment, code_segment, new_image, NewCodeIsThere, NewCodeIsAll, NewCodeIsInPages, row_list, row_text, row_image, RowIsWritten}
+use Rattle.rewrite_core.specs.Layout.{code_start, whole_pages, in_pages, kept_segment, code_segment, new_image, NewCodeIsThere, NewCodeIsAll, NewCodeIsInPages, row_text, RowIsWritten}
 
 -- ---- the segment at an address
 holds_past : (a : ℕ) (s : Segment) → s.start + s.size ≤ a → holds a s ≡ false
@@ -52,12 +51,12 @@ code_byte_found text code k h =
 code_fits : (n : ℕ) → n ≤ whole_pages n
 code_fits n = omega arith
 
-length_in_pages : (bytes : List ℕ) → length (in_pages bytes) ≡ whole_pages (length bytes)
+pub length_in_pages : (bytes : List ℕ) → length (in_pages bytes) ≡ whole_pages (length bytes)
 length_in_pages bytes =
     let w : ℕ = whole_pages (length bytes) in
     length-take-le w (bytes ++ replicate w 0) (omega (arith, length-append bytes (replicate w 0), length-replicate {A = ℕ} w 0))
 
-front_in_pages : (bytes : List ℕ) (n : ℕ) → n ≤ length bytes → take n (in_pages bytes) ≡ take n bytes
+pub front_in_pages : (bytes : List ℕ) (n : ℕ) → n ≤ length bytes → take n (in_pages bytes) ≡ take n bytes
 front_in_pages bytes n h =
     let w : ℕ = whole_pages (length bytes) in
     take-take n w (bytes ++ replicate w 0) (omega (arith, code_fits (length bytes))) ∙ take-append-le n bytes (replicate w 0) h
@@ -66,6 +65,20 @@ byte_in_pages : (bytes : List ℕ) (k : ℕ) → k < length bytes → slice_inde
 byte_in_pages bytes k h =
     let w : ℕ = whole_pages (length bytes) in
     get_or-take w (bytes ++ replicate w 0) k 0 (omega (arith, code_fits (length bytes))) ∙ get_or_append_left bytes (replicate w 0) 0 k h
+
+-- in the pages the code is followed by zeros
+pub in_pages_is : (bytes : List ℕ) → in_pages bytes ≡ bytes ++ replicate (whole_pages (length bytes) - length bytes) 0
+in_pages_is bytes =
+    let w : ℕ = whole_pages (length bytes) in
+    let room : ℕ = w - length bytes in
+    let whole : w ≡ length bytes + room = omega (arith, code_fits (length bytes)) in
+    ap (λ (n : ℕ). take n (bytes ++ replicate w 0)) whole
+    ∙ take-append-add bytes (replicate w 0) room
+    ∙ ap (λ (zs : List ℕ). bytes ++ zs) (take-replicate room w 0 (omega arith))
+
+pub left_in_pages : (bytes : List ℕ) (k : ℕ) → k ≤ length bytes → drop k (in_pages bytes) ≡ drop k bytes ++ replicate (whole_pages (length bytes) - length bytes) 0
+left_in_pages bytes k h =
+    ap (drop k) (in_pages_is bytes) ∙ drop-append-le k bytes (replicate (whole_pages (length bytes) - length bytes) 0) h
 
 -- ---- the laws
 pub new_code_there : NewCodeIsThere
@@ -86,7 +99,7 @@ more text code n k h rest =
     let inside : k < length xs = omega (arith, length_in_pages code) in
     let split : drop k xs ≡ slice_index xs k ∷ drop (suc k) xs = drop-cons xs k 0 inside in
     let next : code_bytes (new_image text code) (code_start + k + 1) n ≡ take n (drop (suc k) xs) =
-        ap (λ (a : ℕ). code_bytes (new_image text code) a n) (add_assoc code_start k 1) ∙ rest ∙ ap (λ (i : ℕ). take n (drop i xs)) (add-one k) in
+    ap (λ (a : ℕ). code_bytes (new_image text code) a n) (add_assoc code_start k 1) ∙ rest ∙ ap (λ (i : ℕ). take n (drop i xs)) (add-one k) in
     ap (λ (b : Option ℕ). then_code b (code_bytes (new_image text code) (code_start + k + 1) n)) (code_byte_found text code k h)
     ∙ ap (λ (bs : List ℕ). slice_index xs k ∷ bs) next
     ∙ ap (take (suc n)) (sym split)
@@ -96,7 +109,7 @@ unfolding code_bytes
 none_more text code n k h =
     let past : length (in_pages code) ≤ k = omega (arith, length_in_pages code) in
     let none : code_byte_at (new_image text code) (code_start + k) ≡ None =
-        code_byte_missed text code (code_start + k) (holds_past (code_start + k) (code_segment code) (omega arith)) in
+    code_byte_missed text code (code_start + k) (holds_past (code_start + k) (code_segment code) (omega arith)) in
     ap (λ (b : Option ℕ). then_code b (code_bytes (new_image text code) (code_start + k + 1) n)) none
     ∙ ap (take (suc n)) (sym (drop_all k (in_pages code) past))
 
@@ -108,8 +121,8 @@ unfolding code_bytes
 new_code_in_pages text code zero k h = refl
 new_code_in_pages text code (suc n) k h =
     elim (below_or_past k (whole_pages (length code))) [
-        inl below ↦ more text code n k below (new_code_in_pages text code n (k + 1) (omega arith))
-    | inr past ↦ none_more text code n k past
+      | inl below ↦ more text code n k below (new_code_in_pages text code n (k + 1) (omega arith))
+      | inr past ↦ none_more text code n k past
     ]
 
 pub row_written : RowIsWritten

@@ -1,5 +1,5 @@
 -- The stated file is accepted as the stated image.
-use Rattle.std.proofs.Common.{◌≡◌, ℕ, ◌+◌, ◌-◌, ◌*◌, ◌/◌, ◌%◌, ◌<◌, ◌≤◌, ◌==◌, ◌&&◌, ◌||◌, Bool, true, false, cond, not, leb, ltb, List, [], ◌∷◌, ◌++◌, length, take, drop, replicate, map, filter, Option, Some, None, Ok, refl, sym, ap, ◌∙◌, append_assoc, arith, length-append}
+use Rattle.std.proofs.Common.{◌≡◌, ℕ, ◌+◌, ◌-◌, ◌*◌, ◌/◌, ◌%◌, ◌<◌, ◌≤◌, ◌==◌, ◌&&◌, Bool, true, false, cond, not, ltb, List, [], ◌∷◌, ◌++◌, length, take, drop, replicate, map, filter, Option, Some, None, Ok, refl, ap, ◌∙◌, append_assoc, arith, length-append}
 use Rattle.std.specs.List.{flat_map, list_any}
 use Rattle.std.proofs.lemmas.List.{length-replicate, take_at, drop_at}
 use Rattle.std.proofs.lemmas.Bool.{le-ltb, ne_eqb}
@@ -8,12 +8,12 @@ use Rattle.elf_image.specs.declared.header.ProgramHeader.{ProgramHeader}
 use Rattle.elf_image.specs.declared.image.Segment.{Segment}
 use Rattle.elf_image.specs.declared.refusal.Refusal.{Refusal}
 use Rattle.elf_image.specs.declared.refusal.Room.TheVariants.{Any}
-use Rattle.elf_image.specs.Fields.{has_magic, entry, headers_from, headers_of}
+use Rattle.elf_image.specs.Fields.{entry, headers_from, headers_of}
 use Rattle.elf_image.specs.Pages.{is_segment, window, page_bytes}
 use Rattle.elf_image.specs.Refusals.{first, is_dynamic, past_file, is_too_small, is_misaligned, is_forbidden, is_out_of_room, any_shares_page, has_address, can_run, code_span, pages_size, header_tests, segment_tests, segments_of, refusal_of}
 use Rattle.elf_image.specs.Image.{segment_of, image_if, image_of}
 use Rattle.elf_image.specs.Plain.{room_segment}
-use Rattle.rewrite_core.specs.Layout.{elf_header, header_bytes, segment_header, code_start, new_headers, zeros, new_file, whole_pages, in_pages, kept_segment, code_segment, new_image, NewFileIsAccepted}
+use Rattle.rewrite_core.specs.Layout.{elf_header, header_bytes, segment_header, code_start, new_headers, table_bytes, zeros, new_file, whole_pages, in_pages, kept_segment, code_segment, new_image, NewFileIsAccepted}
 
 -- ---- the parts of the file
 length_zeros : (n : ℕ) → length (zeros n) ≡ n
@@ -32,7 +32,7 @@ fourth a b c d n h = drop_at (a ++ b ++ c) d n (omega (arith, length-append (a +
 
 -- the headers, of 148 bytes
 head : ℕ → List ℕ
-head n = elf_header code_start 3 ++ flat_map header_bytes (new_headers n)
+head n = elf_header code_start 3 ++ table_bytes n
 
 length_head : (n : ℕ) → length (head n) ≡ 148
 unfolding head elf_header header_bytes new_headers
@@ -158,11 +158,11 @@ not_refused text code page low high =
     let n : ℕ = length code in
     let dynamic : list_any is_dynamic (headers_of file) ≡ false = ap (list_any is_dynamic) (headers_of_new_file text code (omega arith)) ∙ none_dynamic n in
     let segments : first (segment_tests (length file) (entry file) Any (segments_of file)) ≡ None =
-        ap (λ (hs : List ProgramHeader). first (segment_tests (length file) (entry file) Any hs)) (segments_of_new_file text code low high)
-        ∙ ap (λ (at : ℕ). first (segment_tests (length file) at Any (new_headers n))) (entry_of_new_file text code)
-        ∙ segments_pass (length file) n (length_new_file text code page) low high in
+    ap (λ (hs : List ProgramHeader). first (segment_tests (length file) (entry file) Any hs)) (segments_of_new_file text code low high)
+    ∙ ap (λ (at : ℕ). first (segment_tests (length file) at Any (new_headers n))) (entry_of_new_file text code)
+    ∙ segments_pass (length file) n (length_new_file text code page) low high in
     header_passes text code ((list_any is_dynamic (headers_of file), Refusal.Dynamic) ∷ segment_tests (length file) (entry file) Any (segments_of file)) page
-        (passes (list_any is_dynamic (headers_of file)) Refusal.Dynamic (first (segment_tests (length file) (entry file) Any (segments_of file))) dynamic segments)
+    (passes (list_any is_dynamic (headers_of file)) Refusal.Dynamic (first (segment_tests (length file) (entry file) Any (segments_of file))) dynamic segments)
 
 -- the bytes at a place, if there are so many, and the rest with zeros
 window_front : (file front rest : List ℕ) (from n : ℕ) → drop from file ≡ front ++ rest → length front ≡ n → window file from n ≡ front
@@ -189,7 +189,7 @@ code_is text code page =
     let even : ltb n n ≡ false = le-ltb n n (omega arith) in
     let size : 4096 * ((code_start + n + 4095) / 4096 - 0x60000) ≡ whole_pages n = pages_of_code n in
     let bytes : page_bytes (new_file text code) (segment_header 0x2000 code_start n n 5) ≡ in_pages code =
-        rw even (window_rest (new_file text code) code 8192 (4096 * ((code_start + n + 4095) / 4096 - 0x60000)) (whole_pages n) (code_at_end text code page) size) in
+    rw even (window_rest (new_file text code) code 8192 (4096 * ((code_start + n + 4095) / 4096 - 0x60000)) (whole_pages n) (code_at_end text code page) size) in
     cc
 
 segments_are : (text code : List ℕ) → length text ≡ 4096 → map (segment_of (new_file text code)) (new_headers (length code)) ≡ (new_image text code).segments
@@ -205,7 +205,7 @@ unfolding image_of
 new_file_accepted text code page low high =
     let file : List ℕ = new_file text code in
     let segments : map (segment_of file) (segments_of file) ≡ (new_image text code).segments =
-        ap (map (segment_of file)) (segments_of_new_file text code low high) ∙ segments_are text code page in
+    ap (map (segment_of file)) (segments_of_new_file text code low high) ∙ segments_are text code page in
     ap (image_if file) (not_refused text code page low high)
     ∙ ap (λ (ss : List Segment). Ok (record { segments = ss; entry = entry file })) segments
     ∙ ap (λ (at : ℕ). Ok (record (new_image text code) { entry = at })) (entry_of_new_file text code)
