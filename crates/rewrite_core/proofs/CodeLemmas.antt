@@ -1,6 +1,11 @@
 -- The bytes of the stated image that can be run are those of the new code.
 use Rattle.std.proofs.Common.{◌≡◌, ◌⊎◌, ℕ, zero, suc, ◌+◌, ◌-◌, ◌<◌, ◌≤◌, Bool, true, false, cond, List, [], ◌∷◌, ◌++◌, length, take, drop, replicate, find, Option, Some, None, slice_index, refl, sym, ap, ◌∙◌, inl, inr, add_assoc, add-one, arith, length-append, drop-cons}
+<<<<<<< HEAD
 use Rattle.std.proofs.lemmas.List.{length-replicate, length-take-le, take-take, take-append-le, drop_all, get_or-take, get_or_append_left}
+=======
+use Rattle.std.proofs.lemmas.List.{length-replicate, length-take-le, take-take, take-replicate, drop-append-le, take-append-le, drop_all, get_or-take, get_or_append_left}
+use Rattle.std.proofs.Math.Seq.{take-append-add}
+>>>>>>> 2b7593e05c6a2265a7e767ec03963d97da67dcf1
 use Rattle.std.proofs.lemmas.Bool.Decides.{nat_tests}
 use Rattle.elf_image.specs.declared.image.Segment.{Segment}
 use Rattle.elf_image.specs.Image.{holds, segment_at, code_byte_in, code_byte_at, code_bytes, then_code}
@@ -50,12 +55,12 @@ code_byte_found text code k h =
 code_fits : (n : ℕ) → n ≤ whole_pages n
 code_fits n = omega arith
 
-length_in_pages : (bytes : List ℕ) → length (in_pages bytes) ≡ whole_pages (length bytes)
+pub length_in_pages : (bytes : List ℕ) → length (in_pages bytes) ≡ whole_pages (length bytes)
 length_in_pages bytes =
     let w : ℕ = whole_pages (length bytes) in
     length-take-le w (bytes ++ replicate w 0) (omega (arith, length-append bytes (replicate w 0), length-replicate {A = ℕ} w 0))
 
-front_in_pages : (bytes : List ℕ) (n : ℕ) → n ≤ length bytes → take n (in_pages bytes) ≡ take n bytes
+pub front_in_pages : (bytes : List ℕ) (n : ℕ) → n ≤ length bytes → take n (in_pages bytes) ≡ take n bytes
 front_in_pages bytes n h =
     let w : ℕ = whole_pages (length bytes) in
     take-take n w (bytes ++ replicate w 0) (omega (arith, code_fits (length bytes))) ∙ take-append-le n bytes (replicate w 0) h
@@ -64,6 +69,20 @@ byte_in_pages : (bytes : List ℕ) (k : ℕ) → k < length bytes → slice_inde
 byte_in_pages bytes k h =
     let w : ℕ = whole_pages (length bytes) in
     get_or-take w (bytes ++ replicate w 0) k 0 (omega (arith, code_fits (length bytes))) ∙ get_or_append_left bytes (replicate w 0) 0 k h
+
+-- in the pages the code is followed by zeros
+pub in_pages_is : (bytes : List ℕ) → in_pages bytes ≡ bytes ++ replicate (whole_pages (length bytes) - length bytes) 0
+in_pages_is bytes =
+    let w : ℕ = whole_pages (length bytes) in
+    let room : ℕ = w - length bytes in
+    let whole : w ≡ length bytes + room = omega (arith, code_fits (length bytes)) in
+    ap (λ (n : ℕ). take n (bytes ++ replicate w 0)) whole
+    ∙ take-append-add bytes (replicate w 0) room
+    ∙ ap (λ (zs : List ℕ). bytes ++ zs) (take-replicate room w 0 (omega arith))
+
+pub left_in_pages : (bytes : List ℕ) (k : ℕ) → k ≤ length bytes → drop k (in_pages bytes) ≡ drop k bytes ++ replicate (whole_pages (length bytes) - length bytes) 0
+left_in_pages bytes k h =
+    ap (drop k) (in_pages_is bytes) ∙ drop-append-le k bytes (replicate (whole_pages (length bytes) - length bytes) 0) h
 
 -- ---- the laws
 pub new_code_there : NewCodeIsThere

@@ -13,7 +13,7 @@ use Rattle.elf_image.specs.Pages.{is_segment, window, page_bytes}
 use Rattle.elf_image.specs.Refusals.{first, is_dynamic, past_file, is_too_small, is_misaligned, is_forbidden, is_out_of_room, any_shares_page, has_address, can_run, code_span, pages_size, header_tests, segment_tests, segments_of, refusal_of}
 use Rattle.elf_image.specs.Image.{segment_of, image_if, image_of}
 use Rattle.elf_image.specs.Plain.{room_segment}
-use Rattle.rewrite_core.specs.Layout.{elf_header, header_bytes, segment_header, code_start, new_headers, zeros, new_file, whole_pages, in_pages, kept_segment, code_segment, new_image, NewFileIsAccepted}
+use Rattle.rewrite_core.specs.Layout.{elf_header, header_bytes, segment_header, code_start, new_headers, table_bytes, zeros, new_file, whole_pages, in_pages, kept_segment, code_segment, new_image, NewFileIsAccepted}
 
 -- ---- the parts of the file
 length_zeros : (n : ℕ) → length (zeros n) ≡ n
@@ -32,7 +32,7 @@ fourth a b c d n h = drop_at (a ++ b ++ c) d n (omega (arith, length-append (a +
 
 -- the headers, of 148 bytes
 head : ℕ → List ℕ
-head n = elf_header code_start 3 ++ flat_map header_bytes (new_headers n)
+head n = elf_header code_start 3 ++ table_bytes n
 
 length_head : (n : ℕ) → length (head n) ≡ 148
 unfolding head elf_header header_bytes new_headers

@@ -5,7 +5,7 @@ use Rattle.std.proofs.lemmas.List.{length-take-le}
 use Rattle.elf_image.specs.declared.header.ProgramHeader.{ProgramHeader}
 use Rattle.x86_meaning.specs.Spells.{word_bytes}
 use Rattle.rewrite_core.specs.Straight.{straight_code, stop}
-use Rattle.rewrite_core.specs.Layout.{elf_header, header_bytes, segment_header, code_start, new_headers, zeros, new_file}
+use Rattle.rewrite_core.specs.Layout.{elf_header, header_bytes, segment_header, code_start, new_headers, table_bytes, zeros, new_file}
 
 -- a size is written by its lowest 32 bits
 low_word : (n : ℕ) → word_bytes (n % 4294967296) ≡ word_bytes n
@@ -28,7 +28,7 @@ three_headers f bs a b c = simp (append_assoc, append-nil)
 pub pushed_headers : (bs : List ℕ) (n : ℕ) →
     bs ++ header_bytes (segment_header 0x1000 0x08049000 4096 4096 4) ++ header_bytes (segment_header 0x2000 0x0804A000 0 4096 6)
     ++ header_bytes (segment_header 0x2000 code_start (n % 4294967296) (n % 4294967296) 5)
-    ≡ bs ++ flat_map header_bytes (new_headers n)
+    ≡ bs ++ table_bytes n
 unfolding new_headers
 pushed_headers bs n =
     let a : ProgramHeader = segment_header 0x1000 0x08049000 4096 4096 4 in
@@ -37,10 +37,10 @@ pushed_headers bs n =
     ∙ three_headers header_bytes bs a b (segment_header 0x2000 code_start n n 5)
 
 pub pushed_file : (text : List ℕ) (n : ℕ) → n ≤ length text →
-    elf_header code_start 3 ++ flat_map header_bytes (new_headers (n + 2)) ++ zeros 3948 ++ text ++ take n text ++ stop
+    elf_header code_start 3 ++ table_bytes (n + 2) ++ zeros 3948 ++ text ++ take n text ++ stop
     ≡ new_file text (straight_code n text)
 unfolding new_file
 pushed_file text n h =
     let size : n + 2 ≡ length (take n text ++ stop) = omega (arith, length-append (take n text) stop, length-take-le n text h) in
-    append_assoc (elf_header code_start 3 ++ flat_map header_bytes (new_headers (n + 2)) ++ zeros 3948 ++ text) (take n text) stop
-    ∙ ap (λ (m : ℕ). elf_header code_start 3 ++ flat_map header_bytes (new_headers m) ++ zeros 3948 ++ text ++ (take n text ++ stop)) size
+    append_assoc (elf_header code_start 3 ++ table_bytes (n + 2) ++ zeros 3948 ++ text) (take n text) stop
+    ∙ ap (λ (m : ℕ). elf_header code_start 3 ++ table_bytes m ++ zeros 3948 ++ text ++ (take n text ++ stop)) size

@@ -40,12 +40,15 @@ code_start = 0x60000000
 unfoldable pub new_headers : ℕ → List ProgramHeader
 new_headers n = segment_header 0x1000 0x08049000 4096 4096 4 ∷ segment_header 0x2000 0x0804A000 0 4096 6 ∷ segment_header 0x2000 code_start n n 5 ∷ []
 
+abbrev pub table_bytes : ℕ → List ℕ
+table_bytes n = flat_map header_bytes (new_headers n)
+
 unfoldable pub zeros : ℕ → List ℕ
 zeros n = replicate n 0
 
 -- a page of headers, the old page, and the new code
 unfoldable pub new_file : List ℕ → List ℕ → List ℕ
-new_file text code = elf_header code_start 3 ++ flat_map header_bytes (new_headers (length code)) ++ zeros 3948 ++ text ++ code
+new_file text code = elf_header code_start 3 ++ table_bytes (length code) ++ zeros 3948 ++ text ++ code
 
 -- so many bytes, in whole pages
 abbrev pub whole_pages : ℕ → ℕ

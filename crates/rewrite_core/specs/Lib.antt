@@ -2,5 +2,6 @@ pub mod Met
 pub mod Straight
 pub mod Layout
 pub mod Rewrites
+pub mod Agreement
 pub use Rattle.elf_image.specs.Image
 pub use Rattle.elf_image.specs.Plain

@@ -2,7 +2,7 @@
 ghost use Rattle.std.specs.Prelude.{◌≡◌, ◌≤◌, ◌++◌, length, IfOk, OnOk};
 ghost use Rattle.std.specs.List.{flat_map};
 ghost use Rattle.x86_meaning.specs.Spells.{word_bytes};
-ghost use Rattle.rewrite_core.specs.Layout.{half_bytes, elf_header, header_bytes, segment_header, new_headers, zeros, new_file};
+ghost use Rattle.rewrite_core.specs.Layout.{half_bytes, elf_header, header_bytes, segment_header, table_bytes, zeros, new_file};
 ghost use Rattle.rewrite_core.specs.Straight.{straight_code};
 
 use byteorder::{ByteOrder, LittleEndian};
@@ -36,6 +36,7 @@ fn push_word(out: &mut Vec<u8>, n: u32) -> Result<(), AllocError>
     out.extend_from_slice(&bytes)
 }
 
+/// So many bytes that are 0.
 #[tactic(auto, unfolding(crate::specs::Layout::zeros))]
 fn push_zeros(out: &mut Vec<u8>, count: usize) -> Result<(), AllocError>
     ensures { OnOk result (out.new.items ≡ out.old.items ++ zeros count) }
@@ -46,6 +47,7 @@ fn push_zeros(out: &mut Vec<u8>, count: usize) -> Result<(), AllocError>
     Ok(())
 }
 
+/// Numbers of two bytes each.
 fn push_halves(out: &mut Vec<u8>, numbers: &[u16]) -> Result<(), AllocError>
     ensures { OnOk result (out.new.items ≡ out.old.items ++ flat_map half_bytes numbers.now) }
 {
@@ -55,6 +57,7 @@ fn push_halves(out: &mut Vec<u8>, numbers: &[u16]) -> Result<(), AllocError>
     Ok(())
 }
 
+/// Numbers of four bytes each.
 fn push_words(out: &mut Vec<u8>, numbers: &[u32]) -> Result<(), AllocError>
     ensures { OnOk result (out.new.items ≡ out.old.items ++ flat_map word_bytes numbers.now) }
 {
@@ -98,14 +101,16 @@ fn push_elf_header(out: &mut Vec<u8>, entry: u32, count: u16) -> Result<(), Allo
 /// The program headers, for `size` bytes of new code.
 #[tactic(auto, using(crate::proofs::PushLemmas::pushed_headers))]
 fn push_headers(out: &mut Vec<u8>, size: usize) -> Result<(), AllocError>
-    ensures { OnOk result (out.new.items ≡ out.old.items ++ flat_map header_bytes (new_headers size)) }
+    ensures { OnOk result (out.new.items ≡ out.old.items ++ table_bytes size) }
 {
+    // a file that is loaded is smaller than that
     let low = (size % 4_294_967_296) as u32;
     push_header(out, segment_header(0x1000, 0x0804_9000, 4096, 4096, 4))?;
     push_header(out, segment_header(0x2000, 0x0804_A000, 0, 4096, 6))?;
     push_header(out, segment_header(0x2000, CODE_START, low, low, 5))
 }
 
+/// The header of a segment that is loaded (PT_LOAD).
 fn segment_header(
     offset: u32,
     address: u32,

@@ -1,6 +1,6 @@
 -- The words of a call, as lists of bytes.
-use Rattle.std.specs.Prelude.{◌≡◌, ◌≢◌, ℕ, List, [], ◌∷◌, map, codes}
-use Rattle.std.specs.String.{String, string_bytes}
+use Rattle.std.specs.Prelude.{◌≡◌, ◌≢◌, ℕ, List, [], ◌∷◌, map, codes, String}
+use Rattle.std.specs.String.{string_bytes}
 use Rattle.std.specs.declared.alloc.Global.{Global}
 
 abbrev pub texts : List (String Global) → List (List ℕ)

@@ -3,11 +3,10 @@ ghost use Rattle.std.specs.Prelude.{◌≡◌};
 ghost use Rattle.sw_host.specs.Told.{Tells, Rose};
 ghost use Rattle.sw_top.specs.Performs.{Performs};
 
+use crate::End;
 use rewrite_core::{RewriteError, rewrite};
 use std::alloc::Global;
 use sw_host::{Host, HostFault};
-
-use crate::End;
 
 /// The most bytes that are asked of a file, one more than the greatest file that is rewritten.
 const LIMIT: usize = 8193;

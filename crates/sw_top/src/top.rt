@@ -4,13 +4,12 @@ ghost use Rattle.sw_host.specs.Told.{Tells, Rose};
 ghost use Rattle.sw_top.specs.Words.{texts, HasForm};
 ghost use Rattle.sw_top.specs.Serves.{Serves, Reports};
 
-use std::alloc::Global;
-use sw_host::Host;
-
 use crate::End;
 use crate::end::line_of;
 use crate::perform::perform;
 use crate::words::files_in;
+use std::alloc::Global;
+use sw_host::Host;
 
 /// Serves `rewrite IN OUT MAP`, OUT and MAP different: loads IN, stores the new file as OUT and the text of its map as
 /// MAP. Then it says the line of its end, where that has one; a line that fails changes nothing. Memory can be wanting at
