@@ -1,11 +1,7 @@
 -- The bytes of the stated image that can be run are those of the new code.
 use Rattle.std.proofs.Common.{◌≡◌, ◌⊎◌, ℕ, zero, suc, ◌+◌, ◌-◌, ◌<◌, ◌≤◌, Bool, true, false, cond, List, [], ◌∷◌, ◌++◌, length, take, drop, replicate, find, Option, Some, None, slice_index, refl, sym, ap, ◌∙◌, inl, inr, add_assoc, add-one, arith, length-append, drop-cons}
-<<<<<<< HEAD
-use Rattle.std.proofs.lemmas.List.{length-replicate, length-take-le, take-take, take-append-le, drop_all, get_or-take, get_or_append_left}
-=======
 use Rattle.std.proofs.lemmas.List.{length-replicate, length-take-le, take-take, take-replicate, drop-append-le, take-append-le, drop_all, get_or-take, get_or_append_left}
 use Rattle.std.proofs.Math.Seq.{take-append-add}
->>>>>>> 2b7593e05c6a2265a7e767ec03963d97da67dcf1
 use Rattle.std.proofs.lemmas.Bool.Decides.{nat_tests}
 use Rattle.elf_image.specs.declared.image.Segment.{Segment}
 use Rattle.elf_image.specs.Image.{holds, segment_at, code_byte_in, code_byte_at, code_bytes, then_code}
