@@ -21,3 +21,5 @@ untied Greater apart = refl
 pub get-insert_other : (m : Files) (name bytes q : List ℕ) → q ≢ name → get (insert m name bytes) q ≡ get m q
 get-insert_other m name bytes q other =
     get-insert nat_list_cmp_total m name bytes q ∙ ap (λ b. cond b (Some bytes) (get m q)) (untied (slice_cmp nat_cmp q name) (λ e. other (slice_cmp-IsAntisymmetric nat_cmp-IsAntisymmetric q name e)))
+
+pub ruleset stored = (get-insert_same, get-insert_other)

@@ -39,4 +39,4 @@ HasCause-counted before now (Ok x) e = omega arith
 HasCause-counted before now (Err Failed) e = omega arith
 HasCause-counted before now (Err Memory) e = omega arith
 
-pub ruleset telling = (get-files_of)
+pub ruleset telling = (get-files_of, fails_at-push)

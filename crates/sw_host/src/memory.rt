@@ -1,10 +1,12 @@
+#![tactic(auto, using(crate::proofs::MemoryLemmas::telling), unfolding(crate::specs::Memory::told_by, crate::specs::Memory::nothing_told, crate::specs::Memory::with_failing, crate::specs::Calls::called, crate::specs::Calls::loaded, crate::specs::Calls::with_file, crate::specs::Calls::with_line))]
 // A host in memory. It tells all its meanings.
 ghost use Rattle.std.specs.Prelude.{◌≡◌, ℕ, ◌+◌, ◌-◌, ◌^◌, min, take, Some, None, OnOk, OnErr};
 ghost use Rattle.std.specs.Option.{option_copied};
 ghost use Rattle.std.specs.FinMap.{get, insert};
 ghost use Rattle.sw_host.specs.Told.{last_count};
 ghost use Rattle.sw_host.specs.Calls.{with_file, Loads, Stores, Lines};
-ghost use Rattle.sw_host.specs.Memory.{told_by, faults_of, nothing_told, with_failing, CountsFault, files_of, find_file, fails_at};
+ghost use Rattle.sw_host.specs.Memory.{told_by, faults_of, nothing_told, with_failing, CountsFault};
+ghost use Rattle.sw_host.specs.Memory.{files_of, find_file, fails_at};
 
 use crate::{Host, HostFault, LineList};
 use std::alloc::{AllocError, Global};
