@@ -104,7 +104,7 @@ impl MemoryHost {
         put_file(self.alloc, &mut self.files, name.as_bytes(), bytes)
     }
 
-    /// The call of that number is to fail, the first call having number 1.
+    /// The load, store or line of that number is to fail; all calls are numbered from 1 together.
     pub fn fail_call(&mut self, number: u64) -> Result<(), AllocError>
         ensures ok { OnOk result (told_by self.new ≡ with_failing (told_by self.old) number) }
         ensures err { OnErr result (told_by self.new ≡ told_by self.old) }
@@ -121,7 +121,7 @@ impl MemoryHost {
         find(&self.files, name.as_bytes())
     }
 
-    /// The lines that were said.
+    /// The lines that were said, the first of them first.
     pub fn lines(&self) -> &LineList
         ensures { result.now ≡ (told_by self.now).lines }
     {
