@@ -1,6 +1,6 @@
 ghost use Rattle.trace_checks.specs.AgreementChecks.{AllowsAnythingAfterUnspecified, AllowsOutsideAtGuard, AllowsSlowExit, RefusesDroppedBeforeUnspecified, RefusesDroppedEvent, RefusesEarlyEnd, RefusesEndlessRun, RefusesExitAtGuard, RefusesExtraEvent, RefusesOtherEvent, RefusesOtherStatus, RefusesSlowExit, RefusesStepLeftOut};
 ghost use Rattle.trace_checks.specs.EndingChecks.{CountingEnds, ReportingEnds};
-ghost use Rattle.trace_checks.specs.TurnChecks.{AllowsLongTurn, AllowsSplitEvents, RefusesEarlyReport, RefusesLateGuard, RefusesLostMoment, RefusesMovedEvent, RefusesOtherAddress};
+ghost use Rattle.trace_checks.specs.TurnChecks.{AllowsLongTurn, AllowsSplitEvents, AllowsStepLeftOut, RefusesEarlyReport, RefusesLateGuard, RefusesLostMoment, RefusesMovedEvent, RefusesOtherAddress};
 ghost use Rattle.trace_checks.specs.WeightChecks.{WalkPaced};
 
 /// Does nothing: its clauses say what agreement within `4096 * n + 256` steps refuses and lets pass.
@@ -29,6 +29,7 @@ pub fn turn_checks()
     ensures refuses_early_report { RefusesEarlyReport }
     ensures allows_split_events { AllowsSplitEvents }
     ensures allows_long_turn { AllowsLongTurn }
+    ensures allows_step_left_out { AllowsStepLeftOut }
 {}
 
 /// Does nothing: its clauses say that reports and counts are endings.
