@@ -18,7 +18,7 @@ pub record EventsWithin (w b : ℕ) (V R : Behaviour) (k : ℕ) : Type 0 where
   pub bound : steps ≤ w * turns (V k).trace + b
   pub exact : events (R steps).trace ≡ events (V k).trace
 
--- the run does what the unit does, within w steps for each turn and b more, and at least one for each turn
+-- the run does what the unit does, within w steps for each turn and b more, and while it runs in at least one for each turn
 pub record FollowsByTurns (w b : ℕ) (V R : Behaviour) : Type 0 where
   pub does : (n : ℕ) → DoesWithin w b V R n
   pub moments : (k : ℕ) → EventsWithin w b V R k
