@@ -2,7 +2,7 @@
 ghost use Rattle.x86_meaning.specs.Rows.{ExitsLow, ExitsSeven, Loops, MakesOtherCall, ReadStands, Reads, ReadsAndWrites, ReadsFromOne, ReadsIntoCode, ReadsNone, ReadsNothing, ReadsPastPage, StackIsStart, StandsOutside, WritesBelow, WritesByAnswer, WritesStack, WritesText};
 ghost use Rattle.x86_meaning.specs.MemoryLaws.{CanApart, CanByKinds, CanInSame, ForgetAbove, ForgetBelow, ForgetKeepsKinds, ForgetKeepsSame, ForgetOffStack, ForgetThenForget, KnownApart, KnownInSame, PutAllAbove, PutAllBelow, PutAllIsKnown, PutAllKeepsKinds, PutAllKeepsSame, PutAllThere, PutAllWithin, PutElsewhere, PutKeepsSame, PutThere, SameInApart, StackKeepsSame};
 ghost use Rattle.x86_meaning.specs.StateLaws.{CallApart, StartIsForgotten, StepForgets, StepKeepsKinds};
-ghost use Rattle.x86_meaning.specs.Laws.{FifteenAreEnough, FrontIsSpelling, NoSpellingBeginsAnother, NoneIsNoSpelling, RunsArePaced, RunsGrow, RunsHaveNoGuard, RunsNeverStop, RunsTick, SpellingIsShort};
+ghost use Rattle.x86_meaning.specs.Laws.{CodeIsAnyFront, FifteenAreEnough, FrontIsSpelling, NoSpellingBeginsAnother, NoneIsNoSpelling, RunsArePaced, RunsGrow, RunsHaveNoGuard, RunsNeverStop, RunsTick, SpellingIsShort};
 
 /// Does nothing: its clauses say that the computed front is the relation of spellings, and that a list of bytes has at
 /// most one front that spells an instruction.
@@ -12,6 +12,7 @@ pub fn spelling_laws()
     ensures no_spelling_begins_another { NoSpellingBeginsAnother }
     ensures spelling_is_short { SpellingIsShort }
     ensures fifteen_are_enough { FifteenAreEnough }
+    ensures code_is_any_front { CodeIsAnyFront }
 {}
 
 /// Does nothing: its clauses are the laws of each run, whatever stands at each address and from whatever state.
