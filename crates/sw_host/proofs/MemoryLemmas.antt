@@ -40,7 +40,7 @@ fails_at-push failing number i call = at-push failing number call i
 -- a count that rises exactly at `Failed` has its cause
 pub HasCause-counted : {T : Type 0} (before now : ℕ) (r : Result T HostFault) → CountsFault before now r → HasCause before now r
 HasCause-counted before now (Ok x) e = omega arith
-HasCause-counted before now (Err Failed) e = omega arith
+HasCause-counted before now (Err Failed) e = (omega (arith, e.0, e.1), omega (arith, e.0, e.1))
 HasCause-counted before now (Err Memory) e = omega arith
 
 pub ruleset telling = (get-files_of, fails_at-push)

@@ -1,6 +1,6 @@
 #![tactic(auto, using(crate::proofs::MemoryLemmas::telling), unfolding(crate::specs::Memory::told_by, crate::specs::Memory::nothing_told, crate::specs::Memory::with_failing, crate::specs::Calls::called, crate::specs::Calls::loaded, crate::specs::Calls::with_file, crate::specs::Calls::with_line))]
 // A host in memory. It tells all its meanings.
-ghost use Rattle.std.specs.Prelude.{◌≡◌, ℕ, ◌+◌, ◌-◌, ◌^◌, min, take, Some, None, OnOk, OnErr};
+ghost use Rattle.std.specs.Prelude.{◌≡◌, ◌≤◌, ℕ, ◌+◌, ◌-◌, ◌^◌, min, take, Some, None, OnOk, OnErr};
 ghost use Rattle.std.specs.Option.{option_copied};
 ghost use Rattle.std.specs.FinMap.{get, insert};
 ghost use Rattle.sw_host.specs.Told.{last_count};
@@ -72,7 +72,8 @@ fn front(bytes: &[u8], limit: usize) -> &[u8]
 
 // One more, up to the last number.
 fn count(number: &mut u64)
-    ensures { number.new ≡ min (number.old + 1) last_count }
+    ensures small { number.old ≤ last_count }
+    ensures counted { number.new ≡ min (number.old + 1) last_count }
 {
     if *number < u64::MAX {
         *number += 1;
@@ -140,6 +141,7 @@ impl MemoryHost {
     // A fault that is counted.
     fn fail(&mut self) -> HostFault
         ensures failed { result ≡ HostFault.Failed }
+        ensures small { self.old.faults ≤ last_count }
         ensures counted { self.new ≡ record self.old { faults = min (self.old.faults + 1) last_count } }
     {
         count(&mut self.faults);
