@@ -1,11 +1,7 @@
 -- What a rewriting does to what a host tells: the load of IN, the store of OUT, the store of MAP, in this order.
-use Rattle.std.specs.Prelude.{◌≡◌, ℕ, true, false, List, ◌++◌, [], ◌∷◌, Option, Some, None, codes, Ok}
+use Rattle.std.specs.Prelude.{◌≡◌, ℕ, true, false, List, ◌++◌, [], ◌∷◌, Option, Some, None, codes}
 use Rattle.elf_image.specs.declared.refusal.Refusal.{Refusal}
-use Rattle.elf_image.specs.declared.refusal.Room.TheVariants.{Any}
-use Rattle.elf_image.specs.Image.{image_of}
-use Rattle.rewrite_core.specs.Met.{IsRewritable}
-use Rattle.rewrite_core.specs.Layout.{new_image}
-use Rattle.rewrite_core.specs.Rewrites.{rewritten, text_of, code_for, IsRefused}
+use Rattle.rewrite_core.specs.Rewrites.{rewritten, IsWritten, IsRefused}
 use Rattle.sw_host.specs.Told.{Told}
 use Rattle.sw_host.specs.Calls.{called, fails, loaded, with_file, Spoils}
 use Rattle.sw_top.specs.declared.end.End.{End}
@@ -31,11 +27,10 @@ stored_out names file a = with_file (called (called a)) names.to (rewritten file
 abbrev pub stored_both : Names → List ℕ → Told → Told
 stored_both names file a = with_file (called (stored_out names file a)) names.map map_text
 
--- IN was loaded as this file, which is rewritten, and the new file is accepted in the wide room as the stated image
+-- IN was loaded as this file, for which the written file is stated
 pub record IsLoaded (names : Names) (a : Told) (file : List ℕ) : Type 0 where
   pub gave : input names a ≡ Some file
-  pub rewritable : IsRewritable file
-  pub accepted : image_of (rewritten file) Any ≡ Ok (new_image (text_of file) (code_for file))
+  pub written : IsWritten file (rewritten file)
 
 -- all three calls were made, and OUT and MAP are the stated files
 pub record Finishes (names : Names) (a b : Told) : Type 0 where

@@ -1,7 +1,7 @@
-use Rattle.std.proofs.Common.{◌≡◌, ◌≤◌, ℕ, List, Option, Some, None, sym, ap, ◌∙◌, subst, Result}
-use Rattle.sw_host.specs.Told.{Told, Tells}
+use Rattle.std.proofs.Common.{ℕ, List, Option, Some, refl, sym, subst}
+use Rattle.sw_host.specs.Told.{Tells}
 use Rattle.sw_host.proofs.Chain.{tells_map, tells_none}
-use Rattle.sw_top.specs.Serves.{Says, Reports}
+use Rattle.sw_top.specs.Serves.{Says}
 use Rattle.sw_top.proofs.TellLemmas.{has_cause}
 use Rattle.sw_top.proofs.top.report.Goals as goal
 
@@ -14,4 +14,6 @@ pub returns-in-Some-clause-faults : goal.returns-in-Some-clause-faults
 returns-in-Some-clause-faults g c = has_cause _ _ c.line.result c.line.ensures.cause
 
 pub returns-in_default-clause-reports : goal.returns-in_default-clause-reports
-returns-in_default-clause-reports g c = ?
+returns-in_default-clause-reports g c =
+    let P = λ (o : Option (List ℕ)). Tells (g.H.Host.told c.args.host.now) (g.H.Host.told c.args.host.now) (Says o) in
+    subst P (sym c.in_default.ensures) (tells_none _ _ (λ a. refl))
