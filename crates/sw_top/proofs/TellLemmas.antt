@@ -1,5 +1,5 @@
 -- What the calls of a rewriting tell together.
-use Rattle.std.proofs.Common.{◌≡◌, ◌≤◌, ℕ, true, false, List, Result, Ok, Err, Some, None, Vec, ap, subst, ◌∙◌, arith}
+use Rattle.std.proofs.Common.{◌≡◌, ◌≤◌, ℕ, true, false, List, Result, Ok, Err, Some, None, Vec, subst, arith}
 use Rattle.std.specs.declared.alloc.Global.{Global}
 use Rattle.elf_image.specs.declared.refusal.Refusal.{Refusal}
 use Rattle.rewrite_core.specs.Rewrites.{IsRefused, IsWritten}
@@ -41,17 +41,17 @@ module _ (names : Names) (a : Told) where
 
   -- a file was loaded and rewritten
   module _ (v : Vec ℕ Global) (out : List ℕ) (w : IsWritten v.items out) where
-    is_loaded : (b : Told) → Loads names.from limit (Ok v) a b → IsLoaded names a v.items
-    is_loaded b p = record { gave = gave v b p; written = subst (IsWritten v.items) w.is w }
+    is_loaded : (b : Told) → Loads names.from limit (Ok v) a b → IsLoaded names a out
+    is_loaded b p = record { file = v.items; gave = gave v b p; written = w }
 
     pub out_failed : (b c : Told) → Loads names.from limit (Ok v) a b → Stores names.to out (Err Failed) b c → Fails names a c
-    out_failed b c p q = out_fails v.items (is_loaded b p) (subst (λ t. fails (called t) ≡ true) p.0 q.1) (subst (λ t. Spoils names.to (called t) c) p.0 q.0)
+    out_failed b c p q = out_fails out (is_loaded b p) (subst (λ t. fails (called t) ≡ true) p.0 q.1) (subst (λ t. Spoils names.to (called t) c) p.0 q.0)
 
     pub out_wants : (b c : Told) → Loads names.from limit (Ok v) a b → Stores names.to out (Err Memory) b c → Wants names a c
-    out_wants b c p q = in_out v.items (is_loaded b p) (subst (λ t. Spoils names.to (called t) c) p.0 q)
+    out_wants b c p q = in_out out (is_loaded b p) (subst (λ t. Spoils names.to (called t) c) p.0 q)
 
-    stored : (b c : Told) → Loads names.from limit (Ok v) a b → Stores names.to out (Ok tt) b c → c ≡ stored_out names v.items a
-    stored b c p q = subst (λ t. c ≡ with_file (called t) names.to out) p.0 q.0 ∙ ap (with_file (called (called a)) names.to) w.is
+    stored : (b c : Told) → Loads names.from limit (Ok v) a b → Stores names.to out (Ok tt) b c → c ≡ stored_out names out a
+    stored b c p q = subst (λ t. c ≡ with_file (called t) names.to out) p.0 q.0
 
     out_ok : (b c : Told) → Loads names.from limit (Ok v) a b → Stores names.to out (Ok tt) b c → fails (called (called a)) ≡ false
     out_ok b c p q = subst (λ t. fails (called t) ≡ false) p.0 q.1
@@ -59,15 +59,15 @@ module _ (names : Names) (a : Told) where
     pub map_failed : (b c d : Told) → Loads names.from limit (Ok v) a b → Stores names.to out (Ok tt) b c → Stores names.map map_text (Err Failed) c d → Fails names a d
     map_failed b c d p q r =
         let at = stored b c p q in
-        map_fails v.items (is_loaded b p) (out_ok b c p q) (subst (λ t. fails (called t) ≡ true) at r.1) (subst (λ t. Spoils names.map (called t) d) at r.0)
+        map_fails out (is_loaded b p) (out_ok b c p q) (subst (λ t. fails (called t) ≡ true) at r.1) (subst (λ t. Spoils names.map (called t) d) at r.0)
 
     pub map_wants : (b c d : Told) → Loads names.from limit (Ok v) a b → Stores names.to out (Ok tt) b c → Stores names.map map_text (Err Memory) c d → Wants names a d
-    map_wants b c d p q r = in_map v.items (is_loaded b p) (out_ok b c p q) (subst (λ t. Spoils names.map (called t) d) (stored b c p q) r)
+    map_wants b c d p q r = in_map out (is_loaded b p) (out_ok b c p q) (subst (λ t. Spoils names.map (called t) d) (stored b c p q) r)
 
     pub finished : (b c d : Told) → Loads names.from limit (Ok v) a b → Stores names.to out (Ok tt) b c → Stores names.map map_text (Ok tt) c d → Finishes names a d
     finished b c d p q r =
         let at = stored b c p q in
-        record { file = v.items; is_loaded = is_loaded b p; out = out_ok b c p q; map = subst (λ t. fails (called t) ≡ false) at r.1; after = subst (λ t. d ≡ with_file (called t) names.map map_text) at r.0 }
+        record { out = out; is_loaded = is_loaded b p; first_store = out_ok b c p q; second_store = subst (λ t. fails (called t) ≡ false) at r.1; after = subst (λ t. d ≡ with_file (called t) names.map map_text) at r.0 }
 
 -- the calls, and then the line
 pub served : (words : List (List ℕ)) (names : Names) (end : End) (a b c : Told) → IsRewrite words names → Performs names end a b → Reports end b c → Serves words end a c
