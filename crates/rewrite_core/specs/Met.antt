@@ -15,9 +15,9 @@ pub data Met (image : Image) : ℕ → Type 0 where
   after_call : {a : ℕ} → (len : ℕ) → Met image a → code_of image a ≡ Some (Int80, len) → Met image (a + len)
   target : {a : ℕ} → (by len : ℕ) → Met image a → code_of image a ≡ Some (Jmp by, len) → Met image ((a + len + by) % 4294967296)
 
--- B8 to BF begin a MOV, CD begins a call, and F4 spells nothing here
+-- B8 to BF begin a MOV, CD begins a call, E9 and EB a jump, and F4 spells nothing here
 abbrev pub is_taken_byte : ℕ → Bool
-is_taken_byte b = (leb 0xB8 b && leb b 0xBF) || b == 0xCD || b == 0xF4
+is_taken_byte b = (leb 0xB8 b && leb b 0xBF) || b == 0xCD || b == 0xE9 || b == 0xEB || b == 0xF4
 
 -- a constant that is no address of the written file's own
 abbrev pub IsApart : ℕ → Type 0
