@@ -6,3 +6,6 @@ pub mod Outcomes
 pub mod PushLemmas
 pub mod LayoutLemmas
 pub mod CodeLemmas
+pub mod Lockstep
+pub mod Added
+pub mod BesideStates
