@@ -9,3 +9,5 @@ pub mod CodeLemmas
 pub mod Lockstep
 pub mod Added
 pub mod BesideStates
+pub mod StraightRuns
+pub mod Agreements
