@@ -39,14 +39,14 @@ pub record Beside (low high : ℕ) (Places : ℕ → ℕ → Type 0) (s t : Stat
 -- a register after one is set is what was set, or what it was
 set_either : (P : Word → Type 0) (ws : List Word) (i j : ℕ) (w d : Word) → P w → P (get_or ws j d) → P (get_or (set ws i w) j d)
 set_either P ws i j w d p q = elim (eqb_tells j i) [
-    | inr other ↦ subst P (sym (get_or-set_other ws i j w d other.1)) q
-    | inl same ↦
+  | inr other ↦ subst P (sym (get_or-set_other ws i j w d other.1)) q
+  | inl same ↦
       let here : j ≡ i = same.1 in
       elim (leb_tells (length ws) i) [
         | inl past ↦ subst (λ (xs : List Word). P (get_or xs j d)) (sym (set_past ws i w past.1)) q
         | inr within ↦ subst (λ (k : ℕ). P (get_or (set ws i w) k d)) (sym here) (subst P (sym (get_or-set_same ws i w d within.1)) p)
       ]
-  ]
+]
 
 known_word : (n : ℕ) → n < 2 ^ 32 → known (word_of n) ≡ Some n
 unfolding known word_of

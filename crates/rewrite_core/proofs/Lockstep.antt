@@ -28,8 +28,7 @@ module _ {S : Type 0} (at : S → ℕ) (source target : S → Move S) (R : S →
   simulates t a _ _ q (goes ls s s' r) =
       record { steps = 1; few = omega arith; trace = Turn (at t) ∷ ls; state = s'; fits = refl; goes = goes_step (turned at target) t (Turn (at t) ∷ ls) s' (ap (marked (at t)) q); related = r }
   simulates t a _ _ q (halts ls e h) =
-      let ended = run_halt (turned at target) t (Turn (at t) ∷ ls) e (ap (marked (at t)) q) 0 in
-      (
+      let ended = run_halt (turned at target) t (Turn (at t) ∷ ls) e (ap (marked (at t)) q) 0 in (
         record { steps = 1; few = omega arith; fits = rw ended (record { same_events = refl; same_end = λ d. ap Some (sym h) }) },
         rest_halt (turned at target) t (Turn (at t) ∷ ls) e (ap (marked (at t)) q),
       )

@@ -54,6 +54,7 @@ if_ends true (Some p) e = absurd (as_ends p.0 p.1 e)
     either_way : (b : Bool) (len : ℕ) → cond b (GoesOn len) LeftOut ≡ Ends → ⊥
     either_way true len e = cc
     either_way false len e = cc
+
     as_ends : (i : Instr) (len : ℕ) → judged_as i len ≡ Ends → ⊥
     as_ends (Mov to from) len e = either_way (is_apart from) len e
     as_ends Int80 len e = cc
