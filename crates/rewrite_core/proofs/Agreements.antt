@@ -1,20 +1,18 @@
 -- The run of the written code agrees with that of the old one, over any data and over those of the two images.
-use Rattle.std.proofs.Common.{◌≡◌, ◌≢◌, ◌⊎◌, ℕ, zero, suc, ◌+◌, ◌*◌, ◌/◌, ◌-◌, ◌<◌, ◌≤◌, Bool, true, false, cond, List, [], ◌∷◌, ◌++◌, length, take, drop, replicate, All, Option, Some, None, option_map, unwrap_or, refl, sym, ap, ◌∙◌, subst, inl, inr, arith, append_assoc, length-drop}
+use Rattle.std.proofs.Common.{◌≡◌, ◌≢◌, ◌⊎◌, ℕ, ◌+◌, ◌-◌, ◌<◌, ◌≤◌, Bool, true, false, cond, List, ◌++◌, length, take, drop, replicate, All, Option, Some, None, option_map, unwrap_or, refl, sym, ap, ◌∙◌, subst, inl, inr, arith, append_assoc, length-drop}
 use Rattle.std.proofs.lemmas.List.{drop-append-le, length-take-le}
 use Rattle.std.proofs.lemmas.List.Elements.{All-take, All-drop}
 use Rattle.std.proofs.lemmas.Bool.{and_parts, eqb-true}
 use Rattle.std.proofs.lemmas.Bool.Decides.{nat_tests}
-use Rattle.x86_values.specs.Words.{word_of, known}
 use Rattle.traces.specs.Plain.{AgreePlainly}
 use Rattle.elf_image.specs.declared.image.Segment.{Segment}
-use Rattle.elf_image.specs.declared.image.Image.{Image}
-use Rattle.elf_image.specs.Image.{holds, segment_at, code_bytes}
+use Rattle.elf_image.specs.Image.{holds, segment_at}
 use Rattle.elf_image.specs.Plain.{is_plain, plain_image, text_segment, room_segment}
 use Rattle.x86_meaning.specs.Spells.{front}
-use Rattle.x86_meaning.specs.Memory.{Place, Memory, place_in, memory_of, stack_start, with_stack, SameOutside}
+use Rattle.x86_meaning.specs.Memory.{Place, Memory, place_in, memory_of, stack_start}
 use Rattle.x86_meaning.specs.SystemCall.{Environment}
-use Rattle.x86_meaning.specs.Step.{State, Code}
-use Rattle.x86_meaning.specs.Run.{IsStart, IsEnvironment, code_of, start_over, run_from}
+use Rattle.x86_meaning.specs.Step.{Code}
+use Rattle.x86_meaning.specs.Run.{IsStart, code_of, start_over, run_from}
 use Rattle.rewrite_core.specs.Met.{IsApart, IsRewritable}
 use Rattle.rewrite_core.specs.Straight.{straight_length, straight_code, stop}
 use Rattle.rewrite_core.specs.Layout.{code_start, whole_pages, in_pages, kept_segment, code_segment, new_image}

@@ -1,18 +1,18 @@
 -- Two states beside each other: at places of their own, the memory of the second having more in a range. Each instruction
 -- has one lemma here; where the places stand is a relation that its user chooses.
-use Rattle.std.proofs.Common.{◌≡◌, ◌≢◌, ◌⊎◌, ℕ, ◌+◌, ◌%◌, ◌^◌, ◌<◌, ◌≤◌, List, [], ◌∷◌, length, set, get_or, Option, Some, None, refl, sym, ap, ◌∙◌, subst, inl, inr, ⊎_elim, arith}
+use Rattle.std.proofs.Common.{◌≡◌, ℕ, ◌+◌, ◌%◌, ◌^◌, ◌<◌, List, [], length, set, get_or, Option, Some, None, refl, sym, ap, ◌∙◌, subst, inl, inr, arith}
 use Rattle.std.proofs.lemmas.List.{get_or-set_same, get_or-set_other, set_past}
 use Rattle.std.proofs.lemmas.Bool.Decides.{eqb_tells, leb_tells}
 use Rattle.x86_values.specs.declared.word.Word.{Word}
 use Rattle.x86_values.specs.Words.{word_of, known}
-use Rattle.traces.specs.Trace.{Label, End, Unspecified, Outside, Move, Stand, Go, Halt}
+use Rattle.traces.specs.Trace.{Label, Unspecified, Outside}
 use Rattle.x86_meaning.specs.declared.instr.Reg.{Reg}
 use Rattle.x86_meaning.specs.declared.instr.Instr.{Instr}
-use Rattle.x86_meaning.specs.declared.instr.Instr.TheVariants.{Mov, Jmp, Int80}
+use Rattle.x86_meaning.specs.declared.instr.Instr.TheVariants.{Mov, Int80}
 use Rattle.x86_meaning.specs.declared.state.Cpu.{Cpu}
 use Rattle.x86_meaning.specs.Spells.{number_of}
-use Rattle.x86_meaning.specs.Memory.{Memory, forget_below}
-use Rattle.x86_meaning.specs.SystemCall.{Environment, Called, Ends, Gives, system_call}
+use Rattle.x86_meaning.specs.Memory.{Memory}
+use Rattle.x86_meaning.specs.SystemCall.{Called}
 use Rattle.x86_meaning.specs.Step.{State, Code, zero_word, reg_at, with_reg, with_eip, with_cpu, settled_by, settled, request_of, after_call, step, step_at, next}
 use Rattle.rewrite_core.specs.Agreement.{IsAdded}
 use Rattle.rewrite_core.proofs.Lockstep.{Alike, stands, goes, halts}

@@ -1,9 +1,9 @@
 -- Two machines that go on step by step, each beside the other.
-use Rattle.std.proofs.Common.{◌≡◌, ℕ, ◌+◌, ◌*◌, ◌≤◌, List, [], ◌∷◌, Some, refl, sym, ap, arith}
-use Rattle.traces.specs.Trace.{Label, Turn, End, Move, Stand, Go, Halt, Behaviour, seen, run}
-use Rattle.traces.specs.Agree.{Covers, Follows, Agrees, outside, guard_turn}
-use Rattle.traces.specs.Plain.{AgreePlainly, NeverStops}
-use Rattle.traces.specs.Simulation.{Ends, Matched, Simulates, Fits, SameEvents}
+use Rattle.std.proofs.Common.{◌≡◌, ℕ, ◌+◌, ◌*◌, ◌≤◌, List, ◌∷◌, Some, refl, sym, ap, arith}
+use Rattle.traces.specs.Trace.{Label, Turn, End, Move, Stand, Go, Halt, Behaviour, run}
+use Rattle.traces.specs.Agree.{Covers, Follows, Agrees, outside}
+use Rattle.traces.specs.Plain.{AgreePlainly}
+use Rattle.traces.specs.Simulation.{Simulates, Fits, SameEvents}
 use Rattle.traces.specs.Machines.{marked, turned}
 use Rattle.traces.proofs.Steps.{run_stand, run_halt, rest_halt, goes_step}
 use Rattle.traces.proofs.Simulate.{simulation_follows}

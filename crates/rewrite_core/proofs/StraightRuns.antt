@@ -1,13 +1,12 @@
 -- The instructions of a straight list, at two places, go on beside each other.
-use Rattle.std.proofs.Common.{◌≡◌, ◌≢◌, ℕ, zero, suc, ◌+◌, ◌%◌, ◌<◌, ◌≤◌, ◌&&◌, Bool, true, false, cond, not, leb, List, [], ◌∷◌, ◌++◌, length, take, drop, All, Option, Some, None, refl, sym, ap, ◌∙◌, subst, inl, inr, arith, length-drop, append_assoc}
+use Rattle.std.proofs.Common.{◌≡◌, ◌≢◌, ℕ, zero, suc, ◌+◌, ◌%◌, ◌<◌, ◌≤◌, Bool, true, false, cond, List, [], ◌∷◌, ◌++◌, length, take, drop, All, Option, Some, None, refl, sym, ap, ◌∙◌, arith, length-drop, append_assoc}
 use Rattle.std.proofs.lemmas.List.{drop-drop, drop-take, take-take, take-append-drop, length-take-le}
 use Rattle.std.proofs.lemmas.List.Elements.{All-drop}
 use Rattle.std.proofs.lemmas.Bool.Decides.{nat_tests}
 use Rattle.x86_values.specs.Words.{word_of}
-use Rattle.x86_meaning.specs.declared.instr.Reg.{Reg}
 use Rattle.x86_meaning.specs.declared.instr.Instr.{Instr}
 use Rattle.x86_meaning.specs.declared.instr.Instr.TheVariants.{Mov, Jmp, Int80}
-use Rattle.x86_meaning.specs.Spells.{FrontSpells, front}
+use Rattle.x86_meaning.specs.Spells.{front}
 use Rattle.x86_meaning.specs.Step.{State, Code, next}
 use Rattle.x86_meaning.proofs.Spellings.{found, spelled_front}
 use Rattle.rewrite_core.specs.declared.straight.Judgement.{Judgement}
@@ -28,18 +27,18 @@ more_is : (len n : ℕ) (o : Option ℕ) → and_more len o ≡ Some n → (r : 
 more_is len n None e = cc
 more_is len n (Some r) e = (r, refl, cc)
 
-by_within : (n k : ℕ) (bs : List ℕ) (f : List ℕ → Option ℕ) (j : Judgement) → judged bs ≡ j → straight_by f bs j ≡ Some k → ((len r : ℕ) → f (drop len bs) ≡ Some r → r ≤ length (drop len bs)) → k ≤ length bs
-by_within n k bs f (GoesOn len) e q h =
+by_within : (k : ℕ) (bs : List ℕ) (f : List ℕ → Option ℕ) (j : Judgement) → judged bs ≡ j → straight_by f bs j ≡ Some k → ((len r : ℕ) → f (drop len bs) ≡ Some r → r ≤ length (drop len bs)) → k ≤ length bs
+by_within k bs f (GoesOn len) e q h =
     let more = more_is len k (f (drop len bs)) q in
     let w = judged_within bs len e in
     omega (arith, w.1, more.2, h len more.0 more.1, length-drop len bs)
-by_within n k bs f Ends e q h = let zero_is : 0 ≡ k = cc in omega arith
-by_within n k bs f LeftOut e q h = cc
+by_within k bs f Ends e q h = let zero_is : 0 ≡ k = cc in omega arith
+by_within k bs f LeftOut e q h = cc
 
 in_within : (n k : ℕ) (bs : List ℕ) → straight_in n bs ≡ Some k → k ≤ length bs
 unfolding straight_in
 in_within zero k bs e = let zero_is : 0 ≡ k = cc in omega arith
-in_within (suc n) k bs e = by_within n k bs (straight_in n) (judged bs) refl e (λ len r q. in_within n r (drop len bs) q)
+in_within (suc n) k bs e = by_within k bs (straight_in n) (judged bs) refl e (λ len r q. in_within n r (drop len bs) q)
 
 pub straight_within : (bs : List ℕ) (k : ℕ) → straight_length bs ≡ Some k → k ≤ length bs
 unfolding straight_length
