@@ -6,8 +6,8 @@ use Rattle.std.proofs.lemmas.Bool.Decides.{nat_tests}
 use Rattle.elf_image.specs.declared.image.Segment.{Segment}
 use Rattle.elf_image.specs.Image.{holds, segment_at, code_byte_in, code_byte_at, code_bytes, then_code}
 use Rattle.elf_image.specs.Plain.{room_segment}
-use Rattle.rewrite_core.specs.Straight.{straight_code}
-use Rattle.rewrite_core.specs.Layout.{code_start, whole_pages, in_pages, kept_segment, code_segment, new_image, NewCodeIsThere, NewCodeIsAll, NewCodeIsInPages, row_text, RowIsWritten}
+use Rattle.rewrite_core.specs.Places.{stop}
+use Rattle.rewrite_core.specs.Layout.{code_start, whole_pages, in_pages, kept_segment, code_segment, new_image, NewCodeIsThere, NewCodeIsAll, NewCodeIsInPages, row_list, row_text, RowIsWritten}
 
 -- ---- the segment at an address
 holds_past : (a : ℕ) (s : Segment) → s.start + s.size ≤ a → holds a s ≡ false
@@ -127,6 +127,6 @@ new_code_in_pages text code (suc n) k h =
 
 pub row_written : RowIsWritten
 row_written rest =
-    let code : List ℕ = straight_code 12 (row_text rest) in
+    let code : List ℕ = row_list ++ stop in
     let size : 14 ≤ length code = omega arith in
     new_code_in_pages (row_text rest) code 14 0 (omega arith) ∙ front_in_pages code 14 size

@@ -8,7 +8,7 @@ use Rattle.elf_image.specs.declared.refusal.Room.TheVariants.{Any}
 use Rattle.elf_image.specs.Image.{image_of, code_byte_at, code_bytes}
 use Rattle.elf_image.specs.Plain.{room_segment}
 use Rattle.x86_meaning.specs.Spells.{word_bytes}
-use Rattle.rewrite_core.specs.Straight.{straight_code}
+use Rattle.rewrite_core.specs.Places.{stop}
 
 abbrev pub half_bytes : ℕ → List ℕ
 half_bytes n = n % 256 ∷ n / 256 % 256 ∷ []
@@ -81,6 +81,10 @@ NewCodeIsAll = (text code : List ℕ) (a : ℕ) → (a < code_start) ⊎ (code_s
 abbrev pub NewCodeIsInPages : Type 0
 NewCodeIsInPages = (text code : List ℕ) (n k : ℕ) → k ≤ whole_pages (length code) → code_bytes (new_image text code) (code_start + k) n ≡ take n (drop k (in_pages code))
 
+-- the page of code of a plain file
+abbrev pub text_of : List ℕ → List ℕ
+text_of file = take 4096 (drop 4096 file)
+
 -- a worked row: MOV EBX, 7; MOV EAX, 1; INT 80h; HLT, whatever follows
 abbrev pub row_list : List ℕ
 row_list = 0xBB ∷ 0x07 ∷ 0x00 ∷ 0x00 ∷ 0x00 ∷ 0xB8 ∷ 0x01 ∷ 0x00 ∷ 0x00 ∷ 0x00 ∷ 0xCD ∷ 0x80 ∷ []
@@ -89,7 +93,7 @@ abbrev pub row_text : List ℕ → List ℕ
 row_text rest = row_list ++ 0xF4 ∷ rest
 
 abbrev pub row_image : List ℕ → Image
-row_image rest = new_image (row_text rest) (straight_code 12 (row_text rest))
+row_image rest = new_image (row_text rest) (row_list ++ stop)
 
 abbrev pub RowIsWritten : Type 0
 RowIsWritten = (rest : List ℕ) → code_bytes (row_image rest) (row_image rest).entry 14 ≡ row_list ++ 0x0F ∷ 0x0B ∷ []

@@ -1,8 +1,7 @@
 pub mod Met
-pub mod Straight
-pub mod Layout
 pub mod Places
-pub mod Rewrites
+pub mod Layout
 pub mod Agreement
+pub mod Rewrites
 pub use Rattle.elf_image.specs.Image
 pub use Rattle.elf_image.specs.Plain

@@ -1,9 +1,8 @@
 // The written file.
-ghost use Rattle.std.specs.Prelude.{◌≡◌, ◌≤◌, ◌++◌, length, IfOk, OnOk};
+ghost use Rattle.std.specs.Prelude.{◌≡◌, ◌<◌, ◌++◌, length, IfOk, OnOk};
 ghost use Rattle.std.specs.List.{flat_map};
 ghost use Rattle.x86_meaning.specs.Spells.{word_bytes};
 ghost use Rattle.rewrite_core.specs.Layout.{half_bytes, elf_header, header_bytes, segment_header, table_bytes, zeros, new_file};
-ghost use Rattle.rewrite_core.specs.Straight.{straight_code};
 
 use byteorder::{ByteOrder, LittleEndian};
 use elf_image::ProgramHeader;
@@ -14,9 +13,6 @@ const CODE_START: u32 = 0x6000_0000;
 
 /// The magic, then 32 bits, lowest byte first, version 1 (gABI, "ELF Identification").
 const IDENT: [u8; 16] = [0x7F, 0x45, 0x4C, 0x46, 1, 1, 1, 0, 0, 0, 0, 0, 0, 0, 0, 0];
-
-/// UD2, at which a run ends.
-const STOP: [u8; 2] = [0x0F, 0x0B];
 
 /// The two bytes of a number, lowest first.
 fn push_half(out: &mut Vec<u8>, n: u16) -> Result<(), AllocError>
@@ -100,14 +96,12 @@ fn push_elf_header(out: &mut Vec<u8>, entry: u32, count: u16) -> Result<(), Allo
 
 /// The program headers, for `size` bytes of new code.
 #[tactic(auto, using(crate::proofs::PushLemmas::pushed_headers))]
-fn push_headers(out: &mut Vec<u8>, size: usize) -> Result<(), AllocError>
+fn push_headers(out: &mut Vec<u8>, size: u32) -> Result<(), AllocError>
     ensures { OnOk result (out.new.items ≡ out.old.items ++ table_bytes size) }
 {
-    // a file that is loaded is smaller than that
-    let low = (size % 4_294_967_296) as u32;
     push_header(out, segment_header(0x1000, 0x0804_9000, 4096, 4096, 4))?;
     push_header(out, segment_header(0x2000, 0x0804_A000, 0, 4096, 6))?;
-    push_header(out, segment_header(0x2000, CODE_START, low, low, 5))
+    push_header(out, segment_header(0x2000, CODE_START, size, size, 5))
 }
 
 /// The header of a segment that is loaded (PT_LOAD).
@@ -130,18 +124,16 @@ fn segment_header(
     }
 }
 
-/// The file with this page of code, of which the first `n` bytes are its straight list.
-#[tactic(auto, using(crate::proofs::PushLemmas::pushed_file))]
-pub fn write_file(alloc: Global, text: &[u8], n: usize) -> Result<Vec<u8>, AllocError>
-    requires within { n ≤ length text.now }
-    ensures { IfOk result (λ file. file.items ≡ new_file text.now (straight_code n text.now)) }
+/// The file with this page of code and this new code.
+pub fn write_file(alloc: Global, text: &[u8], code: &[u8]) -> Result<Vec<u8>, AllocError>
+    requires { length code.now < 4294967296 }
+    ensures { IfOk result (λ file. file.items ≡ new_file text.now code.now) }
 {
     let mut out = Vec::new(alloc);
     push_elf_header(&mut out, CODE_START, 3)?;
-    push_headers(&mut out, n + STOP.len())?;
+    push_headers(&mut out, code.len() as u32)?;
     push_zeros(&mut out, 3948)?;
     out.extend_from_slice(text)?;
-    out.extend_from_slice(&text[..n])?;
-    out.extend_from_slice(&STOP)?;
+    out.extend_from_slice(code)?;
     Ok(out)
 }

@@ -1,11 +1,11 @@
 //! The rewriting of an executable: what is taken, and the new file.
 #![tactic(auto)]
 
-mod lay;
 mod laws;
+mod lay;
 mod layout;
-mod rewriter;
 mod places;
+mod rewriter;
 
-pub use laws::layout_laws;
+pub use laws::{agreement_laws, layout_laws};
 pub use rewriter::{RewriteError, Rewritten, rewrite};

@@ -1,8 +1,8 @@
 // The rewriting of a file.
 ghost use Rattle.rewrite_core.specs.Rewrites.{Rewrites};
 
+use crate::lay::lay;
 use crate::layout::write_file;
-use crate::straight::straight_length;
 use elf_image::{ImageError, Refusal, Room, read_image};
 use std::alloc::{AllocError, Global};
 use thiserror::Error;
@@ -34,7 +34,8 @@ impl From<AllocError> for RewriteError {
     }
 }
 
-/// Rewrites an executable file. So far it takes straight-line code on one page: a file that has at least 52 bytes and the
+/// Rewrites an executable file. So far it takes moves of constants, jumps and
+/// system calls on one page: a file that has at least 52 bytes and the
 /// magic, and isn't plain, or in which a run can meet what isn't taken yet, is `NotYet`.
 pub fn rewrite(alloc: Global, bytes: &[u8]) -> Result<Rewritten, RewriteError>
     ensures { Rewrites bytes.now result }
@@ -45,10 +46,10 @@ pub fn rewrite(alloc: Global, bytes: &[u8]) -> Result<Rewritten, RewriteError>
         Err(ImageError::Memory) => return Err(RewriteError::Memory),
     };
     let text = image.segments.as_slice()[0].bytes.as_slice();
-    let Some(n) = straight_length(text) else {
+    let Some(code) = lay(alloc, text)? else {
         return Err(RewriteError::Refused(Refusal::NotYet));
     };
-    let file = write_file(alloc, text, n)?;
+    let file = write_file(alloc, text, code.as_slice())?;
     Ok(Rewritten {
         file: ByteList::new(file),
     })
