@@ -1,12 +1,15 @@
 pub mod Added
 pub mod Agreements
 pub mod BesideStates
+pub mod Chains
 pub mod CodeLemmas
 pub mod Fronts
+pub mod JudgedPlaces
 pub mod LayoutLemmas
 pub mod Lockstep
 pub mod MetPlaces
 pub mod Outcomes
+pub mod PartCodes
 pub mod PlainPage
 pub mod PushLemmas
 pub mod StraightRuns

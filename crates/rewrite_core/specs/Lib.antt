@@ -1,5 +1,6 @@
 pub mod Met
 pub mod Places
+pub mod Placing
 pub mod Layout
 pub mod Agreement
 pub mod Rewrites

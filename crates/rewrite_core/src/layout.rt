@@ -24,7 +24,7 @@ fn push_half(out: &mut Vec<u8>, n: u16) -> Result<(), AllocError>
 }
 
 /// The four bytes of a number, lowest first.
-fn push_word(out: &mut Vec<u8>, n: u32) -> Result<(), AllocError>
+pub fn push_word(out: &mut Vec<u8>, n: u32) -> Result<(), AllocError>
     ensures { OnOk result (out.new.items ≡ out.old.items ++ word_bytes n) }
 {
     let mut bytes = [0; 4];

@@ -5,6 +5,7 @@ mod laws;
 mod lay;
 mod layout;
 mod places;
+mod placing;
 mod rewriter;
 
 pub use laws::{agreement_laws, layout_laws};

@@ -1,0 +1,139 @@
+// The placing of what a run can reach: the parts of the new code, and the new place of each old one.
+ghost use Rattle.std.specs.Prelude.{◌≡◌, ◌+◌, ◌^◌, ◌<◌, ⊤, length, slice_index_or, IfOk, OnOk, MatchOption};
+ghost use Rattle.std.specs.Bool.{MatchBool};
+ghost use Rattle.rewrite_core.specs.Places.{IsLeftOut};
+ghost use Rattle.rewrite_core.specs.Placing.{part_size, IsSettled, IsOpen, Goes, IsAdded, Grew, HasPlace, IsMet, Begins, IsList, Fronts, IsFinished};
+
+use crate::places::{Judgement, judged_at};
+use std::alloc::{AllocError, Global};
+
+/// A part of the new code: bytes of the page, a jump to the new place of a place, or a stop.
+#[derive(Clone, Copy, Debug)]
+pub enum Part {
+    Kept { from: usize, len: usize },
+    Leads(usize),
+    Stops,
+}
+
+/// The new place of each place that has one, the parts of the new code so far, and how many bytes they have.
+#[derive(Drop)]
+pub struct Placing {
+    pub places: Vec<Option<u32>>,
+    pub parts: Vec<Part>,
+    pub size: usize,
+}
+
+// Where the run goes on after a place is placed: at a place that has no new place yet, or nowhere; or the place isn't taken yet.
+#[derive(Clone, Copy, Debug)]
+pub enum Next {
+    On(usize),
+    Done,
+    Refused,
+}
+
+fn part_size(part: Part) -> usize
+    ensures { result ≡ part_size part }
+{
+    match part {
+        Part::Kept { len, .. } => len,
+        Part::Leads(_) => 5,
+        Part::Stops => 2,
+    }
+}
+
+impl Placing {
+    fn add(&mut self, part: Part) -> Result<(), AllocError>
+        requires { self.old.size + part_size part < 2 ^ 32 }
+        ensures { OnOk result (IsAdded self.old self.new part) }
+    {
+        self.parts.push(part)?;
+        self.size += part_size(part);
+        Ok(())
+    }
+
+    fn place(&mut self, page: &[u8], at: usize) -> Result<Next, AllocError>
+        requires page { length page.now ≡ 4096 }
+        requires opened { IsOpen page.now self.old at }
+        ensures goes { IfOk result (λ next. Goes page.now at self.new next) }
+        ensures grew { OnOk result (Grew self.old self.new) }
+        ensures placed { OnOk result (HasPlace self.new.places.items at) }
+        ensures fronts { IfOk result (λ next. Begins page.now self.old at → Fronts page.now self.new next) }
+    {
+        let judgement = judged_at(page, at);
+        self.places[at] = Some(self.size as u32);
+        match judgement {
+            Judgement::GoesOn(len) => {
+                self.add(Part::Kept { from: at, len })?;
+                if self.places[at + len].is_none() {
+                    return Ok(Next::On(at + len));
+                }
+                self.add(Part::Leads(at + len))?;
+                Ok(Next::Done)
+            }
+            Judgement::Jumps(to) => {
+                self.add(Part::Leads(to))?;
+                Ok(Next::Done)
+            }
+            Judgement::Ends => {
+                self.add(Part::Stops)?;
+                Ok(Next::Done)
+            }
+            Judgement::LeftOut => Ok(Next::Refused),
+        }
+    }
+
+    fn follow(&mut self, page: &[u8], from: usize) -> Result<bool, AllocError>
+        requires page { length page.now ≡ 4096 }
+        requires opened { IsOpen page.now self.old from }
+        ensures goes { IfOk result (λ all. MatchBool all (IsSettled page.now self.new) (IsLeftOut page.now)) }
+        ensures grew { OnOk result (Grew self.old self.new) }
+        ensures placed { OnOk result (HasPlace self.new.places.items from) }
+        ensures list { IfOk result (λ all. MatchBool all (Begins page.now self.old from → IsList page.now self.new) ⊤) }
+    {
+        let mut at = from;
+        'run: loop {
+            match self.place(page, at)? {
+                Next::On(next) => at = next,
+                Next::Done => return Ok(true),
+                Next::Refused => return Ok(false),
+            }
+        }
+    }
+
+    fn follow_part(&mut self, page: &[u8], index: usize) -> Result<bool, AllocError>
+        requires page { length page.now ≡ 4096 }
+        requires index { index < length self.old.parts.items }
+        requires settled { IsSettled page.now self.old }
+        ensures goes { IfOk result (λ all. MatchBool all (IsSettled page.now self.new) (IsLeftOut page.now)) }
+        ensures grew { OnOk result (Grew self.old self.new) }
+        ensures met { OnOk result (IsMet self.new.places.items (slice_index_or self.new.parts.items index Stops)) }
+        ensures list { OnOk result (IsList page.now self.old → IsList page.now self.new) }
+    {
+        if let Part::Leads(to) = self.parts[index] {
+            if self.places[to].is_none() {
+                return self.follow(page, to);
+            }
+        }
+        Ok(true)
+    }
+}
+
+/// The parts and places of the new code of a page, or nothing where a run can reach a place that isn't taken yet.
+pub fn placing_of(alloc: Global, page: &[u8]) -> Result<Option<Placing>, AllocError>
+    requires { length page.now ≡ 4096 }
+    ensures { IfOk result (λ found. MatchOption found (IsLeftOut page.now) (λ s. IsFinished page.now s)) }
+{
+    let places = vec![in alloc; None; 4097]?;
+    let mut placing = Placing { places, parts: Vec::new(alloc), size: 0 };
+    if !placing.follow(page, 0)? {
+        return Ok(None);
+    }
+    let mut index = 0;
+    while index < placing.parts.len() {
+        if !placing.follow_part(page, index)? {
+            return Ok(None);
+        }
+        index += 1;
+    }
+    Ok(Some(placing))
+}
