@@ -10,6 +10,8 @@ pub mod Lockstep
 pub mod MetPlaces
 pub mod Outcomes
 pub mod PartCodes
+pub mod PlacedParts
+pub mod PlacingSteps
 pub mod PlainPage
 pub mod PushLemmas
 pub mod StraightRuns

@@ -89,12 +89,6 @@ IsSettled page s = ArePlaced page s.places.items s.parts.items s.size None
 abbrev pub IsOpen : List ℕ → Placing → ℕ → Type 0
 IsOpen page s at = IsNext page s.places.items s.parts.items s.size at
 
--- what comes after the placing of a place
-abbrev pub Goes : List ℕ → ℕ → Placing → Next → Type 0
-Goes page at s (On next) = (at < next) × IsOpen page s next
-Goes page at s Done = IsSettled page s
-Goes page at s Refused = IsLeftOut page
-
 -- a part is added at the end
 pub record IsAdded (old new : Placing) (part : Part) : Type 0 where
   pub places : new.places.items ≡ old.places.items
@@ -147,6 +141,32 @@ abbrev pub Fronts : List ℕ → Placing → Next → Type 0
 Fronts page s (On next) = Begins page s next
 Fronts page s Done = IsList page s
 Fronts page s Refused = Unit {0}
+
+-- what comes after the placing of a place
+abbrev pub Goes : List ℕ → ℕ → Placing → Next → Type 0
+Goes page at s (On next) = (at < next) × IsOpen page s next
+Goes page at s Done = IsSettled page s
+Goes page at s Refused = IsLeftOut page
+
+pub record IsPlaced (page : List ℕ) (old new : Placing) (at : ℕ) (next : Next) : Type 0 where
+  pub goes : Goes page at new next
+  pub grew : Grew old new
+  pub placed : HasPlace new.places.items at
+  pub fronts : Begins page old at → Fronts page new next
+
+-- a run is followed to its end
+pub record IsFollowed (page : List ℕ) (old new : Placing) (from : ℕ) : Type 0 where
+  pub settled : IsSettled page new
+  pub grew : Grew old new
+  pub placed : HasPlace new.places.items from
+  pub list : Begins page old from → IsList page new
+
+-- what a part leads to is placed
+pub record IsMetBy (page : List ℕ) (old new : Placing) (index : ℕ) : Type 0 where
+  pub settled : IsSettled page new
+  pub grew : Grew old new
+  pub met : IsMet new.places.items (slice_index_or old.parts.items index Stops)
+  pub list : IsList page old → IsList page new
 
 -- ---- all that a run can reach is placed
 pub record IsFinished (page : List ℕ) (s : Placing) : Type 0 where

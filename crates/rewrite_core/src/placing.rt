@@ -1,8 +1,8 @@
 // The placing of what a run can reach: the parts of the new code, and the new place of each old one.
-ghost use Rattle.std.specs.Prelude.{◌≡◌, ◌+◌, ◌^◌, ◌<◌, ⊤, length, slice_index_or, IfOk, OnOk, MatchOption};
+ghost use Rattle.std.specs.Prelude.{◌≡◌, ◌+◌, ◌^◌, ◌<◌, length, IfOk, OnOk, MatchOption};
 ghost use Rattle.std.specs.Bool.{MatchBool};
 ghost use Rattle.rewrite_core.specs.Places.{IsLeftOut};
-ghost use Rattle.rewrite_core.specs.Placing.{part_size, IsSettled, IsOpen, Goes, IsAdded, Grew, HasPlace, IsMet, Begins, IsList, Fronts, IsFinished};
+ghost use Rattle.rewrite_core.specs.Placing.{part_size, IsSettled, IsOpen, IsAdded, IsPlaced, IsFollowed, IsMetBy, IsFinished};
 
 use crate::places::{Judgement, judged_at};
 use std::alloc::{AllocError, Global};
@@ -54,20 +54,18 @@ impl Placing {
     fn place(&mut self, page: &[u8], at: usize) -> Result<Next, AllocError>
         requires page { length page.now ≡ 4096 }
         requires opened { IsOpen page.now self.old at }
-        ensures goes { IfOk result (λ next. Goes page.now at self.new next) }
-        ensures grew { OnOk result (Grew self.old self.new) }
-        ensures placed { OnOk result (HasPlace self.new.places.items at) }
-        ensures fronts { IfOk result (λ next. Begins page.now self.old at → Fronts page.now self.new next) }
+        ensures { IfOk result (λ next. IsPlaced page.now self.old self.new at next) }
     {
         let judgement = judged_at(page, at);
         self.places[at] = Some(self.size as u32);
         match judgement {
             Judgement::GoesOn(len) => {
                 self.add(Part::Kept { from: at, len })?;
-                if self.places[at + len].is_none() {
-                    return Ok(Next::On(at + len));
+                let next = at + len;
+                if self.places[next].is_none() {
+                    return Ok(Next::On(next));
                 }
-                self.add(Part::Leads(at + len))?;
+                self.add(Part::Leads(next))?;
                 Ok(Next::Done)
             }
             Judgement::Jumps(to) => {
@@ -85,10 +83,7 @@ impl Placing {
     fn follow(&mut self, page: &[u8], from: usize) -> Result<bool, AllocError>
         requires page { length page.now ≡ 4096 }
         requires opened { IsOpen page.now self.old from }
-        ensures goes { IfOk result (λ all. MatchBool all (IsSettled page.now self.new) (IsLeftOut page.now)) }
-        ensures grew { OnOk result (Grew self.old self.new) }
-        ensures placed { OnOk result (HasPlace self.new.places.items from) }
-        ensures list { IfOk result (λ all. MatchBool all (Begins page.now self.old from → IsList page.now self.new) ⊤) }
+        ensures { IfOk result (λ all. MatchBool all (IsFollowed page.now self.old self.new from) (IsLeftOut page.now)) }
     {
         let mut at = from;
         'run: loop {
@@ -104,10 +99,7 @@ impl Placing {
         requires page { length page.now ≡ 4096 }
         requires index { index < length self.old.parts.items }
         requires settled { IsSettled page.now self.old }
-        ensures goes { IfOk result (λ all. MatchBool all (IsSettled page.now self.new) (IsLeftOut page.now)) }
-        ensures grew { OnOk result (Grew self.old self.new) }
-        ensures met { OnOk result (IsMet self.new.places.items (slice_index_or self.new.parts.items index Stops)) }
-        ensures list { OnOk result (IsList page.now self.old → IsList page.now self.new) }
+        ensures { IfOk result (λ all. MatchBool all (IsMetBy page.now self.old self.new index) (IsLeftOut page.now)) }
     {
         if let Part::Leads(to) = self.parts[index] {
             if self.places[to].is_none() {
