@@ -3,8 +3,10 @@ pub mod Agreements
 pub mod BesideStates
 pub mod Chains
 pub mod CodeLemmas
+pub mod Followings
 pub mod Fronts
 pub mod JudgedPlaces
+pub mod LaidCode
 pub mod LayoutLemmas
 pub mod Lockstep
 pub mod MetPlaces

@@ -120,6 +120,10 @@ some_or_none : (o : Option ℕ) → (o ≡ None) ⊎ ((q : ℕ) × (o ≡ Some q
 some_or_none None = inl refl
 some_or_none (Some q) = inr (q, refl)
 
+not-not : (b : Bool) → not (not b) ≡ b
+not-not true = refl
+not-not false = refl
+
 pub none_read : (places : List (Option ℕ)) (p : ℕ) (x : Option ℕ) (b : Bool) → p < length places → x ≡ get_or places p x → is_some x ≡ not b → b ≡ true → place_at places p ≡ None
 none_read places p x b h e f g =
     elim (some_or_none x) [
@@ -133,3 +137,9 @@ some_read places p x b h e f g =
       inl n ↦ let z : false ≡ true = sym (ap is_some n) ∙ f ∙ ap not g in cc
     | inr s ↦ (s.0, sym (get_or_read places p x h e None) ∙ s.1)
     ]
+
+pub there_read : (places : List (Option ℕ)) (p : ℕ) (x : Option ℕ) (b : Bool) → p < length places → x ≡ get_or places p x → b ≡ is_some x → b ≡ true → HasPlace places p
+there_read places p x b h e f g = some_read places p x (not b) h e (sym f ∙ sym (not-not b)) (ap not g)
+
+pub wanting_read : (places : List (Option ℕ)) (p : ℕ) (x : Option ℕ) (b : Bool) → p < length places → x ≡ get_or places p x → b ≡ is_some x → b ≡ false → place_at places p ≡ None
+wanting_read places p x b h e f g = none_read places p x (not b) h e (sym f ∙ sym (not-not b)) (ap not g)

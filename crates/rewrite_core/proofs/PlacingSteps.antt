@@ -81,8 +81,8 @@ module _ (page : List ℕ) (s t : Placing) (at : ℕ) (o : IsOpen page s at) (pa
   put_grows : Grows s.places.items s.parts.items t.places.items t.parts.items
   put_grows = after (λ a b n. Grows s.places.items s.parts.items a b) (grows page s.places.items s.parts.items s.size at o part None)
 
-  put_has : HasPlace t.places.items at
-  put_has = after (λ a b n. HasPlace a at) (s.size, placed_at s.places.items at s.size (at_within page s.places.items s.parts.items s.size at o part None))
+  put_at : place_at t.places.items at ≡ Some s.size
+  put_at = after (λ a b n. place_at a at ≡ Some s.size) (placed_at s.places.items at s.size (at_within page s.places.items s.parts.items s.size at o part None))
 
 -- ---- what a step leaves
 pub jumps_step : (page : List ℕ) (s t : Placing) (at to : ℕ) → length page ≡ 4096 → IsOpen page s at → judged_at page at ≡ Jumps to → IsPut s t at (Leads to) → IsPlaced page s t at Done
@@ -91,7 +91,7 @@ jumps_step page s t at to l o e put = record {
     let settled = subst (λ (j : Judgement). Settled (set s.places.items at (Some s.size)) (s.parts.items ++ Leads to ∷ []) (s.size + 5) None at s.size j) (sym e) (has_last s.parts.items s.size (Leads to) o.placed.sized) in
     put_placed page s t at o (Leads to) put None settled (omega (arith, jumps_within page at to e), jump to o.reached e) (omega arith);
   grew = put_grows page s t at o (Leads to) put;
-  placed = put_has page s t at o (Leads to) put;
+  placed = put_at page s t at o (Leads to) put;
   fronts = λ f n r g. absurd (not_jumps page s.places.items s.parts.items at f to e n r g);
 }
 
@@ -101,7 +101,7 @@ ends_step page s t at o e put = record {
     let settled = subst (λ (j : Judgement). Settled (set s.places.items at (Some s.size)) (s.parts.items ++ Stops ∷ []) (s.size + 2) None at s.size j) (sym e) (has_last s.parts.items s.size Stops o.placed.sized) in
     put_placed page s t at o Stops put None settled tt (omega arith);
   grew = put_grows page s t at o Stops put;
-  placed = put_has page s t at o Stops put;
+  placed = put_at page s t at o Stops put;
   fronts = λ f n r g. after page s t at o Stops put (λ a b k. IsWhole page b n) (list_stops page s.places.items s.parts.items at f e n r g);
 }
 
@@ -122,7 +122,7 @@ module _ (page : List ℕ) (s t : Placing) (at len : ℕ) (o : IsOpen page s at)
   on_step free = record {
     goes = (omega (arith, short.0), record { placed = ahead; free = free; reached = on len o.reached e; within = short.2 });
     grew = put_grows page s t at o (Kept at len) put;
-    placed = put_has page s t at o (Kept at len) put;
+    placed = put_at page s t at o (Kept at len) put;
     fronts = fronts_on;
   }
 
@@ -135,7 +135,7 @@ module _ (page : List ℕ) (s t : Placing) (at len : ℕ) (o : IsOpen page s at)
         goes = to_u (λ x y n. ArePlaced page x y n None) (linked page t.places.items t.parts.items t.size (at + len) ahead short.2 (on len o.reached e) (put_spare page s t at o (Kept at len) put));
         grew = to_u (λ x y n. Grows s.places.items s.parts.items x y) (grows_on s.places.items t.places.items t.places.items s.parts.items t.parts.items (t.parts.items ++ Leads (at + len) ∷ [])
           (put_grows page s t at o (Kept at len) put) (record { keeps = λ p q f. f; begins = take_at t.parts.items (Leads (at + len) ∷ []) (length t.parts.items) refl }));
-        placed = to_u (λ x y n. HasPlace x at) (put_has page s t at o (Kept at len) put);
+        placed = to_u (λ x y n. place_at x at ≡ Some s.size) (put_at page s t at o (Kept at len) put);
         fronts = λ f. absurd (not_linked page t.places.items t.parts.items (at + len) (fronts_on f) there);
       }
 
@@ -145,7 +145,7 @@ left_out_step page s t at o e f g =
     record {
       goes = record { at = at; reached = o.reached; left_out = e };
       grew = to_t (λ x y n. Grows s.places.items s.parts.items x y) (record { keeps = keeps_set s.places.items at s.size o.free; begins = take_all (length s.parts.items) s.parts.items (omega arith) });
-      placed = to_t (λ x y n. HasPlace x at) (s.size, placed_at s.places.items at s.size (at_within page s.places.items s.parts.items s.size at o Stops None));
+      placed = to_t (λ x y n. place_at x at ≡ Some s.size) (placed_at s.places.items at s.size (at_within page s.places.items s.parts.items s.size at o Stops None));
       fronts = λ h. tt;
     }
 

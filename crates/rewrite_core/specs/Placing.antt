@@ -151,14 +151,14 @@ Goes page at s Refused = IsLeftOut page
 pub record IsPlaced (page : List ℕ) (old new : Placing) (at : ℕ) (next : Next) : Type 0 where
   pub goes : Goes page at new next
   pub grew : Grew old new
-  pub placed : HasPlace new.places.items at
+  pub placed : place_at new.places.items at ≡ Some old.size
   pub fronts : Begins page old at → Fronts page new next
 
 -- a run is followed to its end
 pub record IsFollowed (page : List ℕ) (old new : Placing) (from : ℕ) : Type 0 where
   pub settled : IsSettled page new
   pub grew : Grew old new
-  pub placed : HasPlace new.places.items from
+  pub placed : place_at new.places.items from ≡ Some old.size
   pub list : Begins page old from → IsList page new
 
 -- what a part leads to is placed

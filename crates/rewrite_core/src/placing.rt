@@ -101,12 +101,13 @@ impl Placing {
         requires settled { IsSettled page.now self.old }
         ensures { IfOk result (λ all. MatchBool all (IsMetBy page.now self.old self.new index) (IsLeftOut page.now)) }
     {
-        if let Part::Leads(to) = self.parts[index] {
-            if self.places[to].is_none() {
-                return self.follow(page, to);
-            }
+        let Part::Leads(to) = self.parts[index] else {
+            return Ok(true);
+        };
+        if self.places[to].is_some() {
+            return Ok(true);
         }
-        Ok(true)
+        self.follow(page, to)
     }
 }
 
