@@ -1,7 +1,6 @@
 -- The straight list from the first place has one end.
-use Rattle.std.proofs.Common.{◌≡◌, ℕ, ◌+◌, List, refl, sym, ◌∙◌, ap, subst}
-use Rattle.rewrite_core.specs.declared.places.Judgement.{Judgement}
-use Rattle.rewrite_core.specs.declared.places.Judgement.TheVariants.{GoesOn, Jumps, Ends, LeftOut}
+use Rattle.std.proofs.Common.{◌≡◌, ℕ, ◌+◌, List, refl, sym, ◌∙◌, subst}
+use Rattle.rewrite_core.specs.declared.places.Judgement.TheVariants.{GoesOn, Jumps, Ends}
 use Rattle.rewrite_core.specs.Places.{judged_at, Straight, first_of, then_on}
 
 -- a straight list from one place to another

@@ -1,5 +1,5 @@
 -- A run that is followed, and the parts that are met one after another.
-use Rattle.std.proofs.Common.{◌≡◌, ◌⊎◌, ℕ, ◌+◌, ◌*◌, ◌<◌, ◌≤◌, List, [], ◌∷◌, ◌++◌, length, take, replicate, get_or, All, Bool, true, false, Option, Some, None, Result, Ok, Err, IfOk, refl, sym, ap, ◌∙◌, subst, inl, inr, arith}
+use Rattle.std.proofs.Common.{◌≡◌, ◌⊎◌, ℕ, ◌+◌, ◌<◌, ◌≤◌, List, [], length, take, replicate, get_or, All, Bool, true, false, Option, Some, None, Result, Ok, Err, IfOk, refl, sym, ap, ◌∙◌, subst, inl, inr, arith}
 use Rattle.std.proofs.lemmas.List.{take-take, length-take, take_all, length-replicate, get_or-replicate, get_or_past}
 use Rattle.std.proofs.lemmas.Bool.{cases_lt}
 use Rattle.std.proofs.lemmas.List.Folds.{sum_by-replicate}
@@ -9,7 +9,7 @@ use Rattle.rewrite_core.specs.declared.places.Judgement.{Judgement}
 use Rattle.rewrite_core.specs.declared.places.Judgement.TheVariants.{GoesOn, Jumps, Ends, LeftOut}
 use Rattle.rewrite_core.specs.declared.placing.Part.{Part}
 use Rattle.rewrite_core.specs.declared.placing.Part.TheVariants.{Kept, Leads, Stops}
-use Rattle.rewrite_core.specs.declared.placing.Next.TheVariants.{On, Done, Refused}
+use Rattle.rewrite_core.specs.declared.placing.Next.TheVariants.{On, Done}
 use Rattle.rewrite_core.specs.declared.placing.Placing.{Placing}
 use Rattle.rewrite_core.specs.Places.{judged_at, Reached, first, first_of}
 use Rattle.rewrite_core.proofs.PartCodes.{code-nil}
@@ -37,7 +37,7 @@ following_more page s t u from at next f p = record {
   opened = p.goes.1;
   grew = grew_on s t u f.grew p.grew;
   placed = inr (from_placed s t u from at f.placed p.grew p.placed);
-  begins = λ b. p.fronts (f.begins b);
+  begins = λ b. p.list (f.begins b);
 }
 
 pub followed : (page : List ℕ) (s t u : Placing) (from at : ℕ) → IsFollowing page s t from at → IsPlaced page t u at Done → IsFollowed page s u from
@@ -45,15 +45,15 @@ followed page s t u from at f p = record {
   settled = p.goes;
   grew = grew_on s t u f.grew p.grew;
   placed = from_placed s t u from at f.placed p.grew p.placed;
-  list = λ b. p.fronts (f.begins b);
+  list = λ b. p.list (f.begins b);
 }
 
 -- ---- the parts that are met
 leaves_any : (places : List (Option ℕ)) (parts : List Part) (size : ℕ) (next : Option ℕ) (q p : ℕ) → Leaves places parts size None q p → Leaves places parts size next q p
 leaves_any places parts size next q p h =
     elim h [
-      inl e ↦ inl e
-    | inr k ↦ elim k [ inl has ↦ inr (inl has) | inr e ↦ let z : None ≡ Some p = e.0 in cc ]
+      | inl e ↦ inl e
+      | inr k ↦ elim k [ inl has ↦ inr (inl has) | inr e ↦ let z : None ≡ Some p = e.0 in cc ]
     ]
 
 settled_any : (places : List (Option ℕ)) (parts : List Part) (size : ℕ) (next : Option ℕ) (p q : ℕ) (j : Judgement) → Settled places parts size None p q j → Settled places parts size next p q j
@@ -128,11 +128,11 @@ meeting_more page s t index h m by = record {
   settled = by.settled;
   first = by.grew.keeps 0 0 m.first;
   met =
-    let before = All-weaker (IsMet s.places.items) (IsMet t.places.items) (met_still s.places.items t.places.items by.grew.keeps) (take index s.parts.items) m.met in
-    let through = All-more (IsMet t.places.items) s.parts.items index Stops h before by.met in
-    let more : length s.parts.items ≤ length t.parts.items = omega (arith, ap length by.grew.begins, length-take (length s.parts.items) t.parts.items) in
-    let same : take (index + 1) s.parts.items ≡ take (index + 1) t.parts.items = ap (take (index + 1)) (sym by.grew.begins) ∙ take-take (index + 1) (length s.parts.items) t.parts.items (omega arith) in
-    subst (All (IsMet t.places.items)) same through;
+      let before = All-weaker (IsMet s.places.items) (IsMet t.places.items) (met_still s.places.items t.places.items by.grew.keeps) (take index s.parts.items) m.met in
+      let through = All-more (IsMet t.places.items) s.parts.items index Stops h before by.met in
+      let more : length s.parts.items ≤ length t.parts.items = omega (arith, ap length by.grew.begins, length-take (length s.parts.items) t.parts.items) in
+      let same : take (index + 1) s.parts.items ≡ take (index + 1) t.parts.items = ap (take (index + 1)) (sym by.grew.begins) ∙ take-take (index + 1) (length s.parts.items) t.parts.items (omega arith) in
+      subst (All (IsMet t.places.items)) same through;
   list = by.list m.list;
 }
 

@@ -1,5 +1,5 @@
 -- How long what stands at a place is, and how far a jump leads.
-use Rattle.std.proofs.Common.{◌≡◌, ℕ, suc, ◌+◌, ◌-◌, ◌%◌, ◌<◌, ◌≤◌, ◌&&◌, ◌==◌, Bool, true, false, cond, leb, ltb, List, [], ◌∷◌, length, drop, Option, Some, None, subst, arith, length-drop}
+use Rattle.std.proofs.Common.{◌≡◌, ℕ, suc, ◌+◌, ◌%◌, ◌≤◌, ◌==◌, Bool, true, false, cond, List, [], ◌∷◌, length, drop, Option, Some, None, subst, arith, length-drop}
 use Rattle.std.proofs.lemmas.Bool.Decides.{nat_tests}
 use Rattle.x86_meaning.specs.declared.instr.Reg.{Reg}
 use Rattle.x86_meaning.specs.declared.instr.Reg.TheVariants.{Eax, Ecx, Edx, Ebx, Esp, Ebp, Esi, Edi}
@@ -9,7 +9,7 @@ use Rattle.x86_meaning.specs.Spells.{front, mov_of, far_of, near_of, int_of}
 use Rattle.rewrite_core.specs.declared.places.Judgement.{Judgement}
 use Rattle.rewrite_core.specs.declared.places.Judgement.TheVariants.{GoesOn, Jumps, Ends, LeftOut}
 use Rattle.rewrite_core.specs.Met.{is_taken_byte}
-use Rattle.rewrite_core.specs.Places.{is_apart, page_start, place_of, target_of, judged_as, judged_by, judged_from, judged_at}
+use Rattle.rewrite_core.specs.Places.{is_apart, page_start, place_of, judged_as, judged_by, judged_from, judged_at}
 
 abbrev Found : Type 0
 Found = Option (Instr × ℕ)

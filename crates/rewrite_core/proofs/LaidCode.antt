@@ -1,17 +1,16 @@
 -- The bytes of the parts are the new code of the page.
-use Rattle.std.proofs.Common.{◌≡◌, ◌⊎◌, ℕ, ◌+◌, ◌-◌, ◌*◌, ◌%◌, ◌<◌, ◌≤◌, List, [], ◌∷◌, ◌++◌, length, take, drop, get_or, All, Option, Some, None, refl, sym, ap, ◌∙◌, subst, inl, inr, arith, length-append, length-drop}
+use Rattle.std.proofs.Common.{◌≡◌, ℕ, ◌+◌, ◌<◌, ◌≤◌, List, ◌∷◌, length, take, drop, get_or, Option, Some, None, refl, sym, ap, ◌∙◌, subst, inl, inr, arith, length-append, length-drop}
 use Rattle.std.proofs.lemmas.List.{length-take, length-take-le}
 use Rattle.rewrite_core.proofs.JudgedPlaces.{goes_short}
 use Rattle.std.specs.Option.{unwrap_or}
 use Rattle.std.proofs.Math.Seq.{get_or-append_seam}
-use Rattle.x86_meaning.specs.Spells.{word_bytes}
 use Rattle.rewrite_core.specs.declared.places.Judgement.{Judgement}
 use Rattle.rewrite_core.specs.declared.places.Judgement.TheVariants.{GoesOn, Jumps, Ends, LeftOut}
 use Rattle.rewrite_core.specs.declared.placing.Part.{Part}
 use Rattle.rewrite_core.specs.declared.placing.Part.TheVariants.{Kept, Leads, Stops}
 use Rattle.rewrite_core.specs.declared.placing.Placing.{Placing}
-use Rattle.rewrite_core.specs.Places.{Table, judged_at, IsJump, JumpsTo, Continues, StandsFor, IsLaid, stop}
-use Rattle.rewrite_core.specs.Placing.{place_at, part_size, parts_size, part_code, parts_code, IsFine, Has, Leaves, Settled, HasPlace, IsMet, IsFinished}
+use Rattle.rewrite_core.specs.Places.{Table, judged_at, JumpsTo, Continues, StandsFor, IsLaid}
+use Rattle.rewrite_core.specs.Placing.{place_at, part_size, jump_bytes, part_code, parts_code, Has, Leaves, Settled, HasPlace, IsMet, IsFinished}
 use Rattle.rewrite_core.proofs.PartCodes.{length-code, has_code}
 use Rattle.rewrite_core.proofs.PlacedParts.{place_within}
 
@@ -34,14 +33,14 @@ module _ (page code : List ℕ) (small : length page ≡ 4096) (s : Placing) (f 
       record {
         to = m.0;
         at = m.1;
-        jump = stands_code q (Leads to) h ∙ ap (λ (o : Option ℕ). 0xE9 ∷ word_bytes ((unwrap_or o 0 + 4294967296 - (q + 5)) % 4294967296)) m.1;
+        jump = stands_code q (Leads to) h ∙ ap (λ (o : Option ℕ). jump_bytes q (unwrap_or o 0)) m.1;
       }
 
   continues : (q p : ℕ) → Leaves s.places.items s.parts.items s.size None q p → Continues code TheTable q p
   continues q p h =
       elim h [
-        inl e ↦ inl e
-      | inr k ↦ elim k [ inl has ↦ inr (lead_jumps q p has) | inr e ↦ let z : None ≡ Some p = e.0 in cc ]
+        | inl e ↦ inl e
+        | inr k ↦ elim k [ inl has ↦ inr (lead_jumps q p has) | inr e ↦ let z : None ≡ Some p = e.0 in cc ]
       ]
 
   stands_for : (p q : ℕ) (j : Judgement) → Settled s.places.items s.parts.items s.size None p q j → StandsFor page code TheTable p q j
@@ -69,9 +68,9 @@ module _ (page code : List ℕ) (small : length page ≡ 4096) (s : Placing) (f 
     table = TheTable;
     first = f.first;
     stands = λ p q e.
-      let w = place_within s.places.items p q e in
-      let a = f.settled.all in
-      (omega (arith, w), stands_for p q (judged_at page p) (f.settled.settled p q e));
+        let w = place_within s.places.items p q e in
+        let a = f.settled.all in
+        (omega (arith, w), stands_for p q (judged_at page p) (f.settled.settled p q e));
     straight = λ n r e. is ∙ (f.list n r e).code TheTable;
     some = first_there (judged_at page 0) refl (f.settled.settled 0 0 f.first);
     few = let r = f.settled.room in let h = f.settled.small in omega (arith, code_length);

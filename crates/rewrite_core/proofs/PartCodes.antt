@@ -1,13 +1,12 @@
 -- The bytes of the parts, and what stands at a place of them.
-use Rattle.std.proofs.Common.{◌≡◌, ℕ, ◌+◌, ◌-◌, ◌%◌, ◌≤◌, List, [], ◌∷◌, ◌++◌, length, take, drop, get_or, ◌<◌, All, refl, sym, ap, ◌∙◌, subst, arith, add_assoc, add-zero, zero-add, append_assoc, append-nil, length-append, length-drop}
-use Rattle.std.specs.List.{sum_by}
+use Rattle.std.proofs.Common.{◌≡◌, ℕ, ◌+◌, ◌≤◌, List, [], ◌∷◌, ◌++◌, length, take, drop, get_or, ◌<◌, All, refl, sym, ap, ◌∙◌, subst, arith, add_assoc, add-zero, zero-add, append_assoc, append-nil, length-append, length-drop}
 use Rattle.std.proofs.lemmas.List.{length-take-le, take_at, drop_at, get_or_append_left, take_more}
 use Rattle.std.proofs.Math.Seq.{get_or-append_seam}
 use Rattle.std.proofs.lemmas.List.Elements.{All-head, All-tail, All-take}
 use Rattle.std.proofs.lemmas.List.Sums.{sum_by-cons, sum_by_push, sum_by-take-le}
 use Rattle.rewrite_core.specs.declared.placing.Part.{Part}
 use Rattle.rewrite_core.specs.declared.placing.Part.TheVariants.{Kept, Leads, Stops}
-use Rattle.rewrite_core.specs.Places.{Table, stop}
+use Rattle.rewrite_core.specs.Places.{Table}
 use Rattle.rewrite_core.specs.Placing.{part_size, parts_size, part_code, parts_code, IsFine, Has}
 
 size-cons : (x : Part) (xs : List Part) → parts_size (x ∷ xs) ≡ part_size x + parts_size xs

@@ -1,5 +1,5 @@
 -- What is placed stays placed as parts are added.
-use Rattle.std.proofs.Common.{◌≡◌, ◌≢◌, ◌⊎◌, ℕ, ◌+◌, ◌*◌, ◌<◌, ◌≤◌, List, [], ◌∷◌, ◌++◌, length, take, get_or, set, All, Option, Some, None, Bool, true, false, not, refl, sym, ap, ◌∙◌, subst, inl, inr, arith, length-append}
+use Rattle.std.proofs.Common.{◌≡◌, ◌⊎◌, ℕ, ◌+◌, ◌*◌, ◌<◌, ◌≤◌, List, [], ◌∷◌, ◌++◌, length, take, get_or, set, Option, Some, None, Bool, true, false, not, refl, sym, ap, ◌∙◌, subst, inl, inr, arith}
 use Rattle.std.proofs.lemmas.List.{length-set, length_push, get_or-set_same, get_or-set_other, get_or_past, take_at, take_all, take-take, length-take, get_or_read}
 use Rattle.std.specs.Option.{is_some}
 use Rattle.std.proofs.lemmas.List.Elements.{All-push}
@@ -9,9 +9,8 @@ use Rattle.rewrite_core.specs.declared.places.Judgement.{Judgement}
 use Rattle.rewrite_core.specs.declared.places.Judgement.TheVariants.{GoesOn, Jumps, Ends, LeftOut}
 use Rattle.rewrite_core.specs.declared.placing.Part.{Part}
 use Rattle.rewrite_core.specs.declared.placing.Part.TheVariants.{Kept, Leads, Stops}
-use Rattle.rewrite_core.specs.Places.{judged_at, Reached, on, jump}
-use Rattle.rewrite_core.specs.Placing.{place_at, part_size, parts_size, IsFine, Has, Leaves, Settled, is_wanting, wanting, ArePlaced, IsNext, Grows, HasPlace}
-use Rattle.rewrite_core.proofs.JudgedPlaces.{goes_short, jumps_within}
+use Rattle.rewrite_core.specs.Places.{judged_at, Reached}
+use Rattle.rewrite_core.specs.Placing.{place_at, part_size, IsFine, Leaves, Settled, is_wanting, wanting, ArePlaced, IsNext, Grows, HasPlace}
 use Rattle.rewrite_core.proofs.PartCodes.{has_more, has_last, size_push}
 
 module _ (page : List ℕ) (places new : List (Option ℕ)) (parts : List Part) (size : ℕ) (part : Part) (at : ℕ) (next : Option ℕ) (keeps : (p q : ℕ) → place_at places p ≡ Some q → place_at new p ≡ Some q)
@@ -25,12 +24,12 @@ module _ (page : List ℕ) (places new : List (Option ℕ)) (parts : List Part) 
   leaves_more : (q p : ℕ) → Leaves places parts size (Some at) q p → NewLeaves q p
   leaves_more q p h =
       elim h [
-        inl e ↦ inl (keeps p q e)
-      | inr k ↦ elim k [
-          inl has ↦ inr (inl (has_more parts q (Leads p) part has))
-        | inr e ↦
-            let same : at ≡ p = let f : Some at ≡ Some p = e.0 in cc in
-            subst (λ (n : ℕ). NewLeaves q n) same (subst (λ (n : ℕ). NewLeaves n at) (sym e.1) here)
+        | inl e ↦ inl (keeps p q e)
+        | inr k ↦ elim k [
+          | inl has ↦ inr (inl (has_more parts q (Leads p) part has))
+          | inr e ↦
+              let same : at ≡ p = let f : Some at ≡ Some p = e.0 in cc in
+              subst (λ (n : ℕ). NewLeaves q n) same (subst (λ (n : ℕ). NewLeaves n at) (sym e.1) here)
         ]
       ]
 
@@ -58,8 +57,8 @@ place_within places p q e = elim (cases_lt p (length places)) [ inl h ↦ h | in
 pub keeps_set : (places : List (Option ℕ)) (at size : ℕ) → place_at places at ≡ None → (p q : ℕ) → place_at places p ≡ Some q → place_at (set places at (Some size)) p ≡ Some q
 keeps_set places at size free p q e =
     elim (cases_eq p at) [
-      inl same ↦ let n : None ≡ Some q = sym free ∙ ap (place_at places) (sym same) ∙ e in cc
-    | inr other ↦ get_or-set_other places at p (Some size) None other ∙ e
+      | inl same ↦ let n : None ≡ Some q = sym free ∙ ap (place_at places) (sym same) ∙ e in cc
+      | inr other ↦ get_or-set_other places at p (Some size) None other ∙ e
     ]
 
 pub placed_at : (places : List (Option ℕ)) (at size : ℕ) → at < length places → place_at (set places at (Some size)) at ≡ Some size
@@ -81,16 +80,16 @@ module _ (page : List ℕ) (places : List (Option ℕ)) (parts : List Part) (siz
   pub settle : Settled After (parts ++ part ∷ []) (size + part_size part) next at size (judged_at page at) → IsFine page part → part_size part ≤ 5 → ArePlaced page After (parts ++ part ∷ []) (size + part_size part) next
   settle h fine short =
       extended page places After parts size part at next (keeps_set places at size s.free) (inl (placed_at places at size at_within)) s.placed (length-set places at (Some size))
-        (λ p q e. elim (cases_eq p at) [
-            inl same ↦
-              let e' : place_at After at ≡ Some q = ap (place_at After) (sym same) ∙ e in
-              let e'' : Some size ≡ Some q = sym (placed_at places at size at_within) ∙ e' in
-              let is_q : size ≡ q = cc in
-              inr (subst (λ (n : ℕ). Settled After (parts ++ part ∷ []) (size + part_size part) next n q (judged_at page n)) (sym same)
-                (subst (λ (n : ℕ). Settled After (parts ++ part ∷ []) (size + part_size part) next at n (judged_at page at)) is_q h))
-          | inr other ↦ inl (sym (get_or-set_other places at p (Some size) None other) ∙ e)
-          ])
-        fine short (let r = s.placed.room in omega (arith, wanting_set places at size s.free at_within))
+      (λ p q e. elim (cases_eq p at) [
+        | inl same ↦
+            let e' : place_at After at ≡ Some q = ap (place_at After) (sym same) ∙ e in
+            let e'' : Some size ≡ Some q = sym (placed_at places at size at_within) ∙ e' in
+            let is_q : size ≡ q = cc in
+            inr (subst (λ (n : ℕ). Settled After (parts ++ part ∷ []) (size + part_size part) next n q (judged_at page n)) (sym same)
+            (subst (λ (n : ℕ). Settled After (parts ++ part ∷ []) (size + part_size part) next at n (judged_at page at)) is_q h))
+        | inr other ↦ inl (sym (get_or-set_other places at p (Some size) None other) ∙ e)
+      ])
+      fine short (let r = s.placed.room in omega (arith, wanting_set places at size s.free at_within))
 
   pub spare : length (parts ++ part ∷ []) + 1 + 2 * wanting After ≤ 2 * (length page + 1)
   spare = let r = s.placed.room in omega (arith, wanting_set places at size s.free at_within, length_push parts part)
@@ -111,8 +110,8 @@ pub grows_on : (p1 p2 p3 : List (Option ℕ)) (a b c : List Part) → Grows p1 a
 grows_on p1 p2 p3 a b c g h = record {
   keeps = λ p q e. h.keeps p q (g.keeps p q e);
   begins =
-    let short : length a ≤ length b = omega (arith, ap length g.begins, length-take (length a) b) in
-    sym (take-take (length a) (length b) c short) ∙ ap (take (length a)) h.begins ∙ g.begins;
+      let short : length a ≤ length b = omega (arith, ap length g.begins, length-take (length a) b) in
+      sym (take-take (length a) (length b) c short) ∙ ap (take (length a)) h.begins ∙ g.begins;
 }
 
 -- ---- what a place of the table holds
@@ -127,15 +126,15 @@ not-not false = refl
 pub none_read : (places : List (Option ℕ)) (p : ℕ) (x : Option ℕ) (b : Bool) → p < length places → x ≡ get_or places p x → is_some x ≡ not b → b ≡ true → place_at places p ≡ None
 none_read places p x b h e f g =
     elim (some_or_none x) [
-      inl n ↦ sym (get_or_read places p x h e None) ∙ n
-    | inr s ↦ let z : true ≡ false = sym (ap is_some s.1) ∙ f ∙ ap not g in cc
+      | inl n ↦ sym (get_or_read places p x h e None) ∙ n
+      | inr s ↦ let z : true ≡ false = sym (ap is_some s.1) ∙ f ∙ ap not g in cc
     ]
 
 pub some_read : (places : List (Option ℕ)) (p : ℕ) (x : Option ℕ) (b : Bool) → p < length places → x ≡ get_or places p x → is_some x ≡ not b → b ≡ false → HasPlace places p
 some_read places p x b h e f g =
     elim (some_or_none x) [
-      inl n ↦ let z : false ≡ true = sym (ap is_some n) ∙ f ∙ ap not g in cc
-    | inr s ↦ (s.0, sym (get_or_read places p x h e None) ∙ s.1)
+      | inl n ↦ let z : false ≡ true = sym (ap is_some n) ∙ f ∙ ap not g in cc
+      | inr s ↦ (s.0, sym (get_or_read places p x h e None) ∙ s.1)
     ]
 
 pub there_read : (places : List (Option ℕ)) (p : ℕ) (x : Option ℕ) (b : Bool) → p < length places → x ≡ get_or places p x → b ≡ is_some x → b ≡ true → HasPlace places p

@@ -1,5 +1,5 @@
 -- What the placing of a place leaves.
-use Rattle.std.proofs.Common.{◌≡◌, ℕ, ◌+◌, ◌*◌, ◌<◌, ◌≤◌, List, [], ◌∷◌, ◌++◌, length, take, drop, set, All, Option, Some, None, refl, sym, ap, ◌∙◌, subst, inl, inr, arith}
+use Rattle.std.proofs.Common.{◌≡◌, ℕ, ◌+◌, ◌*◌, ◌<◌, ◌≤◌, List, [], ◌∷◌, ◌++◌, length, take, drop, set, Option, Some, None, refl, sym, ap, ◌∙◌, subst, inl, inr, arith}
 use Rattle.std.proofs.Math.Seq.{take-add}
 use Rattle.std.proofs.lemmas.List.{get_or-set_other, take_at, take_all, length-set}
 use Rattle.std.proofs.lemmas.List.Elements.{All-push}
@@ -10,8 +10,8 @@ use Rattle.rewrite_core.specs.declared.placing.Part.{Part}
 use Rattle.rewrite_core.specs.declared.placing.Part.TheVariants.{Kept, Leads, Stops}
 use Rattle.rewrite_core.specs.declared.placing.Next.TheVariants.{On, Done, Refused}
 use Rattle.rewrite_core.specs.declared.placing.Placing.{Placing}
-use Rattle.rewrite_core.specs.Places.{Table, judged_at, Reached, on, jump, Straight, then_on, stop}
-use Rattle.rewrite_core.specs.Placing.{place_at, part_size, parts_size, parts_code, IsFine, ArePlaced, IsNext, IsOpen, IsAdded, Grows, HasPlace, IsNoJump, IsFront, IsWhole, IsPlaced, wanting, Settled}
+use Rattle.rewrite_core.specs.Places.{judged_at, on, jump, Straight, then_on, stop}
+use Rattle.rewrite_core.specs.Placing.{place_at, part_size, IsFine, ArePlaced, IsOpen, IsAdded, Grows, HasPlace, IsNoJump, IsFront, IsWhole, IsPlaced, wanting, Settled}
 use Rattle.rewrite_core.proofs.JudgedPlaces.{goes_short, jumps_within}
 use Rattle.rewrite_core.proofs.Chains.{one_end, ends_is_end, jumps_is_end}
 use Rattle.rewrite_core.proofs.PartCodes.{code_push, has_last}
@@ -23,14 +23,14 @@ module _ (page : List ℕ) (places : List (Option ℕ)) (parts : List Part) (at 
   front_on size len e one = record {
     straight = then_on len f.straight e;
     code = λ table.
-      code_push page table parts (Kept at len)
-      ∙ ap (λ (bs : List ℕ). bs ++ take len (drop at page)) (f.code table)
-      ∙ sym (take-add at len page);
+        code_push page table parts (Kept at len)
+        ∙ ap (λ (bs : List ℕ). bs ++ take len (drop at page)) (f.code table)
+        ∙ sym (take-add at len page);
     no_jump = All-push IsNoJump parts (Kept at len) f.no_jump tt;
     below = λ p q g. elim (cases_eq p at) [
-        inl same ↦ omega arith
+      | inl same ↦ omega arith
       | inr other ↦ let h = f.below p q (sym (get_or-set_other places at p (Some size) None other) ∙ g) in omega arith
-      ];
+    ];
   }
 
   list_stops : judged_at page at ≡ Ends → (n : ℕ) → Straight page n → judged_at page n ≡ Ends → IsWhole page (parts ++ Stops ∷ []) n
@@ -38,9 +38,9 @@ module _ (page : List ℕ) (places : List (Option ℕ)) (parts : List Part) (at 
       let same = one_end page at n f.straight s (ends_is_end page at e) (ends_is_end page n g) in
       record {
         code = λ table.
-          code_push page table parts Stops
-          ∙ ap (λ (bs : List ℕ). bs ++ stop) (f.code table)
-          ∙ ap (λ (k : ℕ). take k page ++ stop) same;
+            code_push page table parts Stops
+            ∙ ap (λ (bs : List ℕ). bs ++ stop) (f.code table)
+            ∙ ap (λ (k : ℕ). take k page ++ stop) same;
         no_jump = All-push IsNoJump parts Stops f.no_jump tt;
       }
 
@@ -88,21 +88,21 @@ module _ (page : List ℕ) (s t : Placing) (at : ℕ) (o : IsOpen page s at) (pa
 pub jumps_step : (page : List ℕ) (s t : Placing) (at to : ℕ) → length page ≡ 4096 → IsOpen page s at → judged_at page at ≡ Jumps to → IsPut s t at (Leads to) → IsPlaced page s t at Done
 jumps_step page s t at to l o e put = record {
   goes =
-    let settled = subst (λ (j : Judgement). Settled (set s.places.items at (Some s.size)) (s.parts.items ++ Leads to ∷ []) (s.size + 5) None at s.size j) (sym e) (has_last s.parts.items s.size (Leads to) o.placed.sized) in
-    put_placed page s t at o (Leads to) put None settled (omega (arith, jumps_within page at to e), jump to o.reached e) (omega arith);
+      let settled = subst (λ (j : Judgement). Settled (set s.places.items at (Some s.size)) (s.parts.items ++ Leads to ∷ []) (s.size + 5) None at s.size j) (sym e) (has_last s.parts.items s.size (Leads to) o.placed.sized) in
+      put_placed page s t at o (Leads to) put None settled (omega (arith, jumps_within page at to e), jump to o.reached e) (omega arith);
   grew = put_grows page s t at o (Leads to) put;
   placed = put_at page s t at o (Leads to) put;
-  fronts = λ f n r g. absurd (not_jumps page s.places.items s.parts.items at f to e n r g);
+  list = λ f n r g. absurd (not_jumps page s.places.items s.parts.items at f to e n r g);
 }
 
 pub ends_step : (page : List ℕ) (s t : Placing) (at : ℕ) → IsOpen page s at → judged_at page at ≡ Ends → IsPut s t at Stops → IsPlaced page s t at Done
 ends_step page s t at o e put = record {
   goes =
-    let settled = subst (λ (j : Judgement). Settled (set s.places.items at (Some s.size)) (s.parts.items ++ Stops ∷ []) (s.size + 2) None at s.size j) (sym e) (has_last s.parts.items s.size Stops o.placed.sized) in
-    put_placed page s t at o Stops put None settled tt (omega arith);
+      let settled = subst (λ (j : Judgement). Settled (set s.places.items at (Some s.size)) (s.parts.items ++ Stops ∷ []) (s.size + 2) None at s.size j) (sym e) (has_last s.parts.items s.size Stops o.placed.sized) in
+      put_placed page s t at o Stops put None settled tt (omega arith);
   grew = put_grows page s t at o Stops put;
   placed = put_at page s t at o Stops put;
-  fronts = λ f n r g. after page s t at o Stops put (λ a b k. IsWhole page b n) (list_stops page s.places.items s.parts.items at f e n r g);
+  list = λ f n r g. after page s t at o Stops put (λ a b k. IsWhole page b n) (list_stops page s.places.items s.parts.items at f e n r g);
 }
 
 module _ (page : List ℕ) (s t : Placing) (at len : ℕ) (o : IsOpen page s at) (e : judged_at page at ≡ GoesOn len) (put : IsPut s t at (Kept at len)) where
@@ -123,20 +123,20 @@ module _ (page : List ℕ) (s t : Placing) (at len : ℕ) (o : IsOpen page s at)
     goes = (omega (arith, short.0), record { placed = ahead; free = free; reached = on len o.reached e; within = short.2 });
     grew = put_grows page s t at o (Kept at len) put;
     placed = put_at page s t at o (Kept at len) put;
-    fronts = fronts_on;
+    list = fronts_on;
   }
 
   pub linked_step : (u : Placing) → HasPlace t.places.items (at + len) → IsAdded t u (Leads (at + len)) → IsPlaced page s u at Done
   linked_step u there a =
       let P : (List (Option ℕ) → List Part → ℕ → Type 0) → Type 0 = λ Q. Q u.places.items u.parts.items u.size in
       let to_u = λ (Q : List (Option ℕ) → List Part → ℕ → Type 0) (h : Q t.places.items (t.parts.items ++ Leads (at + len) ∷ []) (t.size + 5)).
-        along Q t.places.items u.places.items (t.parts.items ++ Leads (at + len) ∷ []) u.parts.items (t.size + 5) u.size a.places a.parts a.size h in
+      along Q t.places.items u.places.items (t.parts.items ++ Leads (at + len) ∷ []) u.parts.items (t.size + 5) u.size a.places a.parts a.size h in
       record {
         goes = to_u (λ x y n. ArePlaced page x y n None) (linked page t.places.items t.parts.items t.size (at + len) ahead short.2 (on len o.reached e) (put_spare page s t at o (Kept at len) put));
         grew = to_u (λ x y n. Grows s.places.items s.parts.items x y) (grows_on s.places.items t.places.items t.places.items s.parts.items t.parts.items (t.parts.items ++ Leads (at + len) ∷ [])
-          (put_grows page s t at o (Kept at len) put) (record { keeps = λ p q f. f; begins = take_at t.parts.items (Leads (at + len) ∷ []) (length t.parts.items) refl }));
+            (put_grows page s t at o (Kept at len) put) (record { keeps = λ p q f. f; begins = take_at t.parts.items (Leads (at + len) ∷ []) (length t.parts.items) refl }));
         placed = to_u (λ x y n. place_at x at ≡ Some s.size) (put_at page s t at o (Kept at len) put);
-        fronts = λ f. absurd (not_linked page t.places.items t.parts.items (at + len) (fronts_on f) there);
+        list = λ f. absurd (not_linked page t.places.items t.parts.items (at + len) (fronts_on f) there);
       }
 
 pub left_out_step : (page : List ℕ) (s t : Placing) (at : ℕ) → IsOpen page s at → judged_at page at ≡ LeftOut → t.places.items ≡ set s.places.items at (Some s.size) → t.parts.items ≡ s.parts.items → IsPlaced page s t at Refused
@@ -146,7 +146,7 @@ left_out_step page s t at o e f g =
       goes = record { at = at; reached = o.reached; left_out = e };
       grew = to_t (λ x y n. Grows s.places.items s.parts.items x y) (record { keeps = keeps_set s.places.items at s.size o.free; begins = take_all (length s.parts.items) s.parts.items (omega arith) });
       placed = to_t (λ x y n. place_at x at ≡ Some s.size) (placed_at s.places.items at s.size (at_within page s.places.items s.parts.items s.size at o Stops None));
-      fronts = λ h. tt;
+      list = λ h. tt;
     }
 
 -- ---- the bounds on the way

@@ -1,9 +1,7 @@
 -- What is pushed is the stated file.
-use Rattle.std.proofs.Common.{◌≡◌, ℕ, ◌+◌, ◌/◌, ◌%◌, ◌≤◌, List, [], ◌∷◌, ◌++◌, length, take, ap, ◌∙◌, append_assoc, append-nil, arith, length-append}
+use Rattle.std.proofs.Common.{◌≡◌, ℕ, List, [], ◌∷◌, ◌++◌, length, ap, ◌∙◌, append_assoc, append-nil}
 use Rattle.std.specs.List.{flat_map}
-use Rattle.std.proofs.lemmas.List.{length-take-le}
 use Rattle.elf_image.specs.declared.header.ProgramHeader.{ProgramHeader}
-use Rattle.x86_meaning.specs.Spells.{word_bytes}
 use Rattle.rewrite_core.specs.Layout.{elf_header, header_bytes, segment_header, code_start, new_headers, table_bytes, zeros, new_file}
 
 three_headers : (f : ProgramHeader → List ℕ) (bs : List ℕ) (a b c : ProgramHeader) → bs ++ f a ++ f b ++ f c ≡ bs ++ flat_map f (a ∷ b ∷ c ∷ [])

@@ -1,5 +1,6 @@
 -- How the new code of a page comes about: its parts, and the new place of each old one.
-use Rattle.std.specs.Prelude.{◌≡◌, ◌⊎◌, ℕ, ◌+◌, ◌-◌, ◌*◌, ◌%◌, ◌<◌, ◌≤◌, List, [], ◌∷◌, ◌++◌, length, take, drop, slice_index_or, All, Option, Some, None}
+use Rattle.std.specs.Prelude.{◌≡◌, ◌⊎◌, ℕ, ◌+◌, ◌-◌, ◌*◌, ◌%◌, ◌<◌, ◌≤◌, List, [], ◌∷◌, ◌++◌, length, take, drop, slice_index_or, All, Bool, Option, Some, None}
+use Rattle.std.specs.Bool.{MatchBool}
 use Rattle.std.specs.List.{sum_by}
 use Rattle.std.specs.Option.{unwrap_or}
 use Rattle.x86_meaning.specs.Spells.{word_bytes}
@@ -25,12 +26,21 @@ part_size Stops = 2
 abbrev pub parts_size : List Part → ℕ
 parts_size parts = sum_by part_size parts
 
+-- E9 rel32 to another place of the new code
+abbrev pub jump_bytes : ℕ → ℕ → List ℕ
+jump_bytes q to = 0xE9 ∷ word_bytes ((to + 4294967296 - (q + 5)) % 4294967296)
+
 -- the bytes of a part at a place of the new code
 abbrev pub part_code : List ℕ → Table → ℕ → Part → List ℕ
 part_code page table q (Kept from len) = take len (drop from page)
-part_code page table q (Leads to) = 0xE9 ∷ word_bytes ((unwrap_or (table to) 0 + 4294967296 - (q + 5)) % 4294967296)
+part_code page table q (Leads to) = jump_bytes q (unwrap_or (table to) 0)
 part_code page table q Stops = stop
 
+-- a part is added to the code
+abbrev pub with_part : List ℕ → List (Option ℕ) → List ℕ → Part → List ℕ
+with_part page places code part = code ++ part_code page (place_at places) (length code) part
+
+-- the bytes of the parts, from a place of the new code on
 unfoldable pub parts_code : List ℕ → Table → ℕ → List Part → List ℕ
 parts_code page table q [] = []
 parts_code page table q (part ∷ parts) = part_code page table q part ++ parts_code page table (q + part_size part) parts
@@ -53,6 +63,7 @@ pub record Has (parts : List Part) (q : ℕ) (part : Part) : Type 0 where
 abbrev pub Leaves : List (Option ℕ) → List Part → ℕ → Option ℕ → ℕ → ℕ → Type 0
 Leaves places parts size next q p = (place_at places p ≡ Some q) ⊎ (Has parts q (Leads p) ⊎ ((next ≡ Some p) × (q ≡ size)))
 
+-- what stands at the new place of p
 abbrev pub Settled : List (Option ℕ) → List Part → ℕ → Option ℕ → ℕ → ℕ → Judgement → Type 0
 Settled places parts size next p q (GoesOn len) = Has parts q (Kept p len) × Leaves places parts size next (q + len) (p + len)
 Settled places parts size next p q (Jumps to) = Has parts q (Leads to)
@@ -83,6 +94,7 @@ pub record IsNext (page : List ℕ) (places : List (Option ℕ)) (parts : List P
   pub reached : Reached page at
   pub within : at ≤ length page
 
+-- every place that has a new place is settled, or one is placed next
 abbrev pub IsSettled : List ℕ → Placing → Type 0
 IsSettled page s = ArePlaced page s.places.items s.parts.items s.size None
 
@@ -114,6 +126,7 @@ IsMet places (Leads to) = HasPlace places to
 IsMet places Stops = Unit {0}
 
 -- ---- the straight list from the first place
+-- a part of a list without jumps
 abbrev pub IsNoJump : Part → Type 0
 IsNoJump (Kept from len) = Unit {0}
 IsNoJump (Leads to) = ⊥
@@ -131,16 +144,18 @@ pub record IsWhole (page : List ℕ) (parts : List Part) (n : ℕ) : Type 0 wher
   pub code : (table : Table) → parts_code page table 0 parts ≡ take n page ++ stop
   pub no_jump : All IsNoJump parts
 
+-- where the page is one straight list, so are the parts
 abbrev pub IsList : List ℕ → Placing → Type 0
 IsList page s = (n : ℕ) → Straight page n → judged_at page n ≡ Ends → IsWhole page s.parts.items n
 
 abbrev pub Begins : List ℕ → Placing → ℕ → Type 0
 Begins page s at = IsFront page s.places.items s.parts.items at
 
-abbrev pub Fronts : List ℕ → Placing → Next → Type 0
-Fronts page s (On next) = Begins page s next
-Fronts page s Done = IsList page s
-Fronts page s Refused = Unit {0}
+-- what then comes after the placing of a place
+abbrev pub ListGoes : List ℕ → Placing → Next → Type 0
+ListGoes page s (On next) = Begins page s next
+ListGoes page s Done = IsList page s
+ListGoes page s Refused = Unit {0}
 
 -- what comes after the placing of a place
 abbrev pub Goes : List ℕ → ℕ → Placing → Next → Type 0
@@ -152,7 +167,7 @@ pub record IsPlaced (page : List ℕ) (old new : Placing) (at : ℕ) (next : Nex
   pub goes : Goes page at new next
   pub grew : Grew old new
   pub placed : place_at new.places.items at ≡ Some old.size
-  pub fronts : Begins page old at → Fronts page new next
+  pub list : Begins page old at → ListGoes page new next
 
 -- a run is followed to its end
 pub record IsFollowed (page : List ℕ) (old new : Placing) (from : ℕ) : Type 0 where
@@ -161,6 +176,9 @@ pub record IsFollowed (page : List ℕ) (old new : Placing) (from : ℕ) : Type 
   pub placed : place_at new.places.items from ≡ Some old.size
   pub list : Begins page old from → IsList page new
 
+abbrev pub Follows : List ℕ → Placing → Placing → ℕ → Bool → Type 0
+Follows page old new from all = MatchBool all (IsFollowed page old new from) (IsLeftOut page)
+
 -- what a part leads to is placed
 pub record IsMetBy (page : List ℕ) (old new : Placing) (index : ℕ) : Type 0 where
   pub settled : IsSettled page new
@@ -168,7 +186,10 @@ pub record IsMetBy (page : List ℕ) (old new : Placing) (index : ℕ) : Type 0 
   pub met : IsMet new.places.items (slice_index_or old.parts.items index Stops)
   pub list : IsList page old → IsList page new
 
--- ---- all that a run can reach is placed
+abbrev pub Meets : List ℕ → Placing → Placing → ℕ → Bool → Type 0
+Meets page old new index all = MatchBool all (IsMetBy page old new index) (IsLeftOut page)
+
+-- all that a run can reach is placed
 pub record IsFinished (page : List ℕ) (s : Placing) : Type 0 where
   pub settled : IsSettled page s
   pub first : place_at s.places.items 0 ≡ Some 0

@@ -1,9 +1,8 @@
 // The new code of a page.
-ghost use Rattle.std.specs.Prelude.{◌≡◌, ◌+◌, ◌-◌, ◌%◌, ◌≤◌, ◌∷◌, ◌++◌, length, IfOk, MatchOption, OnOk, All};
+ghost use Rattle.std.specs.Prelude.{◌≡◌, ◌≤◌, ◌++◌, length, IfOk, MatchOption, OnOk, All};
 ghost use Rattle.std.specs.Option.{unwrap_or};
-ghost use Rattle.x86_meaning.specs.Spells.{word_bytes};
 ghost use Rattle.rewrite_core.specs.Places.{IsLaid, IsLeftOut};
-ghost use Rattle.rewrite_core.specs.Placing.{place_at, part_code, parts_code, parts_size, IsFine};
+ghost use Rattle.rewrite_core.specs.Placing.{place_at, jump_bytes, with_part, parts_code, parts_size, IsFine};
 
 use crate::layout::push_word;
 use crate::placing::{Part, placing_of};
@@ -22,7 +21,7 @@ fn new_place(places: &[Option<u32>], at: usize) -> u32
 /// E9 rel32, to a place of the new code.
 fn push_jump(code: &mut Vec<u8>, to: u32) -> Result<(), AllocError>
     requires { length code.old.items ≤ 65536 }
-    ensures { let rel = (to + 4294967296 - (length code.old.items + 5)) % 4294967296 in OnOk result (code.new.items ≡ code.old.items ++ 0xE9 ∷ word_bytes rel) }
+    ensures { OnOk result (code.new.items ≡ code.old.items ++ jump_bytes (length code.old.items) to) }
 {
     let after = code.len() as u32 + 5;
     code.push(0xE9)?;
@@ -30,10 +29,15 @@ fn push_jump(code: &mut Vec<u8>, to: u32) -> Result<(), AllocError>
 }
 
 /// The bytes of a part.
-fn push_part(code: &mut Vec<u8>, page: &[u8], places: &[Option<u32>], part: Part) -> Result<(), AllocError>
+fn push_part(
+    code: &mut Vec<u8>,
+    page: &[u8],
+    places: &[Option<u32>],
+    part: Part,
+) -> Result<(), AllocError>
     requires small { length code.old.items ≤ 65536 }
     requires fine { IsFine page.now part }
-    ensures { OnOk result (code.new.items ≡ code.old.items ++ part_code page.now (place_at places.now) (length code.old.items) part) }
+    ensures { OnOk result (code.new.items ≡ with_part page.now places.now code.old.items part) }
 {
     match part {
         Part::Kept { from, len } => code.extend_from_slice(&page[from..from + len]),
@@ -43,7 +47,12 @@ fn push_part(code: &mut Vec<u8>, page: &[u8], places: &[Option<u32>], part: Part
 }
 
 /// The bytes of the parts, one after another.
-fn code_of(alloc: Global, page: &[u8], places: &[Option<u32>], parts: &[Part]) -> Result<Vec<u8>, AllocError>
+fn code_of(
+    alloc: Global,
+    page: &[u8],
+    places: &[Option<u32>],
+    parts: &[Part],
+) -> Result<Vec<u8>, AllocError>
     requires small { parts_size parts.now ≤ 65536 }
     requires fine { All (IsFine page.now) parts.now }
     ensures { IfOk result (λ code. code.items ≡ parts_code page.now (place_at places.now) 0 parts.now) }
@@ -63,6 +72,11 @@ pub fn lay(alloc: Global, page: &[u8]) -> Result<Option<Vec<u8>>, AllocError>
     let Some(placing) = placing_of(alloc, page)? else {
         return Ok(None);
     };
-    let code = code_of(alloc, page, placing.places.as_slice(), placing.parts.as_slice())?;
+    let code = code_of(
+        alloc,
+        page,
+        placing.places.as_slice(),
+        placing.parts.as_slice(),
+    )?;
     Ok(Some(code))
 }

@@ -1,8 +1,7 @@
 // The placing of what a run can reach: the parts of the new code, and the new place of each old one.
 ghost use Rattle.std.specs.Prelude.{◌≡◌, ◌+◌, ◌^◌, ◌<◌, length, IfOk, OnOk, MatchOption};
-ghost use Rattle.std.specs.Bool.{MatchBool};
 ghost use Rattle.rewrite_core.specs.Places.{IsLeftOut};
-ghost use Rattle.rewrite_core.specs.Placing.{part_size, IsSettled, IsOpen, IsAdded, IsPlaced, IsFollowed, IsMetBy, IsFinished};
+ghost use Rattle.rewrite_core.specs.Placing.{part_size, IsSettled, IsOpen, IsAdded, IsPlaced, Follows, Meets, IsFinished};
 
 use crate::places::{Judgement, judged_at};
 use std::alloc::{AllocError, Global};
@@ -23,7 +22,8 @@ pub struct Placing {
     pub size: usize,
 }
 
-// Where the run goes on after a place is placed: at a place that has no new place yet, or nowhere; or the place isn't taken yet.
+/// Where the run goes on after a place is placed: at a place that has no new place yet, or nowhere more; or that place isn't
+/// taken yet.
 #[derive(Clone, Copy, Debug)]
 pub enum Next {
     On(usize),
@@ -42,6 +42,7 @@ fn part_size(part: Part) -> usize
 }
 
 impl Placing {
+    // One more part, at the end.
     fn add(&mut self, part: Part) -> Result<(), AllocError>
         requires { self.old.size + part_size part < 2 ^ 32 }
         ensures { OnOk result (IsAdded self.old self.new part) }
@@ -51,6 +52,7 @@ impl Placing {
         Ok(())
     }
 
+    // Places a place at the end of the new code.
     fn place(&mut self, page: &[u8], at: usize) -> Result<Next, AllocError>
         requires page { length page.now ≡ 4096 }
         requires opened { IsOpen page.now self.old at }
@@ -80,10 +82,12 @@ impl Placing {
         }
     }
 
+    // Places a place, and those to which the run goes on from it, up to a jump or a place that is placed already. False where
+    // one of them isn't taken yet.
     fn follow(&mut self, page: &[u8], from: usize) -> Result<bool, AllocError>
         requires page { length page.now ≡ 4096 }
         requires opened { IsOpen page.now self.old from }
-        ensures { IfOk result (λ all. MatchBool all (IsFollowed page.now self.old self.new from) (IsLeftOut page.now)) }
+        ensures { IfOk result (λ all. Follows page.now self.old self.new from all) }
     {
         let mut at = from;
         'run: loop {
@@ -95,11 +99,12 @@ impl Placing {
         }
     }
 
+    // Places that to which a part leads, if it isn't placed yet.
     fn follow_part(&mut self, page: &[u8], index: usize) -> Result<bool, AllocError>
         requires page { length page.now ≡ 4096 }
         requires index { index < length self.old.parts.items }
         requires settled { IsSettled page.now self.old }
-        ensures { IfOk result (λ all. MatchBool all (IsMetBy page.now self.old self.new index) (IsLeftOut page.now)) }
+        ensures { IfOk result (λ all. Meets page.now self.old self.new index all) }
     {
         let Part::Leads(to) = self.parts[index] else {
             return Ok(true);
@@ -114,10 +119,14 @@ impl Placing {
 /// The parts and places of the new code of a page, or nothing where a run can reach a place that isn't taken yet.
 pub fn placing_of(alloc: Global, page: &[u8]) -> Result<Option<Placing>, AllocError>
     requires { length page.now ≡ 4096 }
-    ensures { IfOk result (λ found. MatchOption found (IsLeftOut page.now) (λ s. IsFinished page.now s)) }
+    ensures { IfOk result (λ found. MatchOption found (IsLeftOut page.now) (IsFinished page.now)) }
 {
     let places = vec![in alloc; None; 4097]?;
-    let mut placing = Placing { places, parts: Vec::new(alloc), size: 0 };
+    let mut placing = Placing {
+        places,
+        parts: Vec::new(alloc),
+        size: 0,
+    };
     if !placing.follow(page, 0)? {
         return Ok(None);
     }

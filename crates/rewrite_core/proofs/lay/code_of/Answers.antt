@@ -1,8 +1,6 @@
 use Rattle.std.proofs.Common.{sym, ◌∙◌, arith}
 use Rattle.rewrite_core.specs.Placing.{place_at}
 use Rattle.rewrite_core.proofs.PartCodes.{code-nil, taken_small, pushed_part}
-use Rattle.rewrite_core.proofs.JudgedPlaces.{goes_short, jumps_within}
-use Rattle.rewrite_core.proofs.Chains.{one_end}
 use Rattle.rewrite_core.proofs.lay.code_of.Goals as goal
 
 pub loop-part-init : goal.loop-part-init

@@ -1,7 +1,6 @@
-use Rattle.std.proofs.Common.{◌≡◌, ℕ, None, Some, List, length, replicate, refl, sym, rules, arith}
+use Rattle.std.proofs.Common.{refl, rules, arith}
 use Rattle.rewrite_core.specs.declared.placing.Placing.{Placing}
-use Rattle.rewrite_core.specs.Placing.{IsFollowed, IsMetBy}
-use Rattle.rewrite_core.proofs.Followings.{meeting_none, begins_first, open_first, meeting_more, meeting_all, meeting_room}
+use Rattle.rewrite_core.proofs.Followings.{meeting_none, begins_first, open_first, meeting_more, meeting_all}
 use Rattle.rewrite_core.proofs.placing.placing_of.Goals as goal
 
 pub follow-requires-clause-opened : goal.follow-requires-clause-opened

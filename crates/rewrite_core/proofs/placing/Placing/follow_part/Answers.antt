@@ -1,9 +1,8 @@
-use Rattle.std.proofs.Common.{◌≡◌, ℕ, ◌<◌, ◌≤◌, length, get_or, sym, ◌∙◌, arith}
+use Rattle.std.proofs.Common.{◌≡◌, get_or, sym, ◌∙◌}
 use Rattle.std.proofs.lemmas.List.{get_or_read}
 use Rattle.rewrite_core.specs.declared.placing.Part.TheVariants.{Stops, Leads}
-use Rattle.rewrite_core.specs.Places.{IsLeftOut}
-use Rattle.rewrite_core.proofs.PlacedParts.{none_read, there_read}
-use Rattle.rewrite_core.proofs.Followings.{where_true, lead_within, lead_open, met_there, met_by_run, met_else}
+use Rattle.rewrite_core.proofs.PlacedParts.{there_read}
+use Rattle.rewrite_core.proofs.Followings.{lead_within, met_there}
 use Rattle.rewrite_core.proofs.placing.Placing.follow_part.Goals as goal
 
 pub returns-then-is_some : goal.returns-then-is_some

@@ -1,4 +1,4 @@
-use Rattle.std.proofs.Common.{◌≡◌, ℕ, ◌+◌, ◌≤◌, ◌<◌, length, refl, sym, arith}
+use Rattle.std.proofs.Common.{◌+◌, refl, sym, arith}
 use Rattle.rewrite_core.proofs.JudgedPlaces.{goes_short}
 use Rattle.rewrite_core.proofs.PlacedParts.{none_read, some_read}
 use Rattle.rewrite_core.proofs.PlacingSteps.{jumps_step, ends_step, on_step, linked_step, left_out_step, small_size, goes_within}
@@ -25,7 +25,7 @@ returns-then-is_none c =
     let e = sym c.in-GoesOn.ensures in
     let h = goes_within c.args.page.now c.args.self.now t c.args.at c.in-GoesOn.len c.requires.page c.requires.opened e a.places in
     on_step c.args.page.now c.args.self.now t c.args.at c.in-GoesOn.len c.requires.opened e (record { places = a.places; parts = a.parts; size = a.size })
-      (none_read t.places.items (c.args.at + c.in-GoesOn.len) _ _ h.2 c.index.ensures c.is_none.ensures c.if-is_none.true)
+    (none_read t.places.items (c.args.at + c.in-GoesOn.len) _ _ h.2 c.index.ensures c.is_none.ensures c.if-is_none.true)
 
 pub add-requires-in-GoesOn : goal.add-requires-in-GoesOn
 add-requires-in-GoesOn c =
@@ -39,7 +39,7 @@ returns-in_ok-add-in-GoesOn-2 c =
     let e = sym c.in-GoesOn.ensures in
     let h = goes_within c.args.page.now c.args.self.now t c.args.at c.in-GoesOn.len c.requires.page c.requires.opened e a.places in
     linked_step c.args.page.now c.args.self.now t c.args.at c.in-GoesOn.len c.requires.opened e (record { places = a.places; parts = a.parts; size = a.size }) c.add-in-GoesOn.new.self
-      (some_read t.places.items (c.args.at + c.in-GoesOn.len) _ _ h.2 c.index.ensures c.is_none.ensures c.if-is_none.false) c.in_ok-add-in-GoesOn-2.ensures
+    (some_read t.places.items (c.args.at + c.in-GoesOn.len) _ _ h.2 c.index.ensures c.is_none.ensures c.if-is_none.false) c.in_ok-add-in-GoesOn-2.ensures
 
 pub returns-in_ok-add-in-Jumps : goal.returns-in_ok-add-in-Jumps
 returns-in_ok-add-in-Jumps c =
