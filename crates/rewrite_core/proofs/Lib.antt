@@ -6,8 +6,7 @@ pub mod Fronts
 pub mod LayoutLemmas
 pub mod Lockstep
 pub mod MetPlaces
+pub mod PageAddresses
 pub mod Outcomes
 pub mod PlainPage
 pub mod PushLemmas
-pub mod StraightRuns
-pub mod Straights
