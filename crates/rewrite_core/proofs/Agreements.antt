@@ -1,3 +1,5 @@
+use Rattle.rewrite_core.proofs.BesideStates.{Beside}
+use Rattle.rewrite_core.proofs.Lockstep.{agree_by_steps}
 use Rattle.rewrite_core.specs.Agreement.{NewFileAgrees, NewCodeAgrees}
 pub new_code_agrees : NewCodeAgrees
 new_code_agrees = ?

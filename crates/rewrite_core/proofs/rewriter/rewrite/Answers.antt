@@ -10,10 +10,41 @@ use Rattle.rewrite_core.proofs.Agreements.{new_file_agrees}
 use Rattle.rewrite_core.proofs.rewriter.rewrite.Goals as goal
 
 pub lay-requires : goal.lay-requires
-lay-requires c = ?
+lay-requires c =
+    let file = c.args.bytes.now in
+    let plain = plain_file file c.in-Ok.ensures.0 in
+    let text = c.as_slice-text.ensures ∙ text_is file c.in-Ok.image c.as_slice.result.now _ c.in-Ok.ensures.2 c.as_slice.ensures in
+    ap length text ∙ plain.whole
+
+pub returns-in_default : goal.returns-in_default
+returns-in_default c =
+    let file = c.args.bytes.now in
+    let text = c.as_slice-text.ensures ∙ text_is file c.in-Ok.image c.as_slice.result.now _ c.in-Ok.ensures.2 c.as_slice.ensures in
+    let left_out : IsLeftOut c.as_slice-text.result.now = rw c.in_default.is at c.in_ok-code.ensures.laid in
+    left_out_refuses file (plain_file file c.in-Ok.ensures.0) (subst IsLeftOut text left_out)
 
 pub write_file-requires : goal.write_file-requires
-write_file-requires c = ?
+write_file-requires c =
+    let laid : IsLaid c.as_slice-text.result.now c.in-Some.code.items = rw c.in-Some.is at c.in_ok-code.ensures.laid in
+    omega (arith, ap length c.as_slice-2.ensures.value, laid.few)
 
 pub returns : goal.returns
-returns c = ?
+returns c =
+    let file = c.args.bytes.now in
+    let plain = plain_file file c.in-Ok.ensures.0 in
+    let text = c.as_slice-text.ensures ∙ text_is file c.in-Ok.image c.as_slice.result.now _ c.in-Ok.ensures.2 c.as_slice.ensures in
+    let code = c.in-Some.code.items in
+    let found : IsLaid c.as_slice-text.result.now code = rw c.in-Some.is at c.in_ok-code.ensures.laid in
+    let laid : IsLaid (text_of file) code = subst (λ t. IsLaid t code) text found in
+    let is : c.new.result ≡ new_file (text_of file) code = c.new.ensures ∙ c.in_ok-file.ensures ∙ ap (λ t. new_file t c.as_slice-2.result.now) text ∙ ap (new_file (text_of file)) c.as_slice-2.ensures.value in
+    let bytes = All-from_get_or (λ b. b < 256) file 0 (λ i h. omega (arith, c.type_inv.bytes i)) in
+    let takes = laid_takes file code plain laid in
+    record {
+      rewritable = takes;
+      code = code;
+      laid = laid;
+      is = is;
+      read = c.in-Ok.ensures.1 ∙ ap Ok c.in-Ok.ensures.2;
+      accepted = ap (λ f. image_of f Any) is ∙ new_file_accepted (text_of file) code plain.whole laid.some (omega (arith, laid.few));
+      agrees = new_file_agrees file code bytes takes laid;
+    }
