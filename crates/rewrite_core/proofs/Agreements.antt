@@ -1,7 +1,99 @@
-use Rattle.rewrite_core.proofs.BesideStates.{Beside}
+-- The run of the written code agrees with that of the old one, over any data and over those of the two images.
+use Rattle.std.proofs.Common.{◌≡◌, ◌⊎◌, ℕ, ◌+◌, ◌<◌, ◌≤◌, Bool, true, false, cond, List, length, drop, All, Option, Some, None, option_map, refl, ap, inl, inr, arith, length-drop}
+use Rattle.std.proofs.lemmas.List.{length-take-le}
+use Rattle.std.proofs.lemmas.List.Elements.{All-take, All-drop}
+use Rattle.std.proofs.lemmas.Bool.{and_parts, eqb-true}
+use Rattle.std.proofs.lemmas.Bool.Decides.{nat_tests}
+use Rattle.traces.specs.Plain.{AgreePlainly}
+use Rattle.elf_image.specs.declared.image.Segment.{Segment}
+use Rattle.elf_image.specs.Image.{holds, segment_at}
+use Rattle.elf_image.specs.Plain.{is_plain, plain_image, text_segment, room_segment}
+use Rattle.x86_meaning.specs.Memory.{Place, Memory, place_in, memory_of, stack_start}
+use Rattle.x86_meaning.specs.SystemCall.{Environment}
+use Rattle.x86_meaning.specs.Run.{IsStart, code_of, start_over, run_from}
+use Rattle.rewrite_core.specs.Met.{IsApart, IsRewritable}
+use Rattle.rewrite_core.specs.Places.{page_start, IsLaid}
+use Rattle.rewrite_core.specs.Layout.{code_start, whole_pages, kept_segment, code_segment, new_image, text_of}
+use Rattle.rewrite_core.specs.Agreement.{IsAdded, NewFileAgrees, NewCodeAgrees}
+use Rattle.rewrite_core.proofs.PlainPage.{plain_page}
 use Rattle.rewrite_core.proofs.Lockstep.{agree_by_steps}
-use Rattle.rewrite_core.specs.Agreement.{NewFileAgrees, NewCodeAgrees}
+use Rattle.rewrite_core.proofs.Added.{Away, added_stack}
+use Rattle.rewrite_core.proofs.BesideStates.{Beside, constant_away}
+use Rattle.rewrite_core.proofs.PlaceRuns.{IsNew, one_step}
+
+plain_whole : (file : List ℕ) → IsRewritable file → length (text_of file) ≡ 4096
+unfolding is_plain
+plain_whole file r =
+    let size : length file ≡ 8192 = eqb-true (length file) 8192 (and_parts _ _ (and_parts _ _ (and_parts _ _ r.plain).0).0).0 in
+    length-take-le 4096 (drop 4096 file) (omega (arith, length-drop 4096 file))
+
+-- ---- two starts
+apart_is_away : (high k : ℕ) → high ≤ 0x7C000000 → IsApart k → Away code_start high k
+apart_is_away high k h (inl p) = inl p
+apart_is_away high k h (inr p) = inr (omega arith)
+
+-- the stack stands above every room of code
+stack_is_high : (esp0 : ℕ) (stack : List ℕ) → IsStart esp0 stack → 0x7C000000 ≤ stack_start esp0
+stack_is_high esp0 stack s = let h = s.high in omega arith
+
+code_end : (page code : List ℕ) → IsLaid page code → code_start + whole_pages (length code) ≤ 0x7C000000
+code_end page code laid = let few = laid.few in omega arith
+
+starts_beside : (page code : List ℕ) (laid : IsLaid page code) (high : ℕ) → ((k : ℕ) → IsApart k → Away code_start high k) → (m n : Memory) → IsAdded code_start high m n → (esp0 : ℕ) (stack : List ℕ) (left : Environment) → high ≤ stack_start esp0 → code_start ≤ stack_start esp0
+    → Beside code_start high (IsNew page code laid) (start_over m page_start esp0 stack left) (start_over n code_start esp0 stack left)
+unfolding start_over
+starts_beside page code laid high apart m n added esp0 stack left h k = record {
+  same = refl;
+  places = record { new = 0; at = laid.first; is = refl };
+  memory = added_stack code_start high m n esp0 stack k h added;
+  buffer = constant_away code_start high 0 (omega arith) (apart 0 (inl (omega arith)));
+}
+
+-- ---- over any data
 pub new_code_agrees : NewCodeAgrees
-new_code_agrees = ?
+new_code_agrees file code bytes r laid m n added esp0 stack left start environment =
+    let text : List ℕ = text_of file in
+    let high : ℕ = code_start + whole_pages (length code) in
+    let below : high ≤ 0x7C000000 = code_end text code laid in
+    let above : 0x7C000000 ≤ stack_start esp0 = stack_is_high esp0 stack start in
+    let text_bytes : All (λ b. b < 256) text = All-take (λ b. b < 256) 4096 (drop 4096 file) (All-drop (λ b. b < 256) 4096 file bytes) in
+    let apart : (k : ℕ) → IsApart k → Away code_start high k = λ k. apart_is_away high k below in
+    let first = starts_beside text code laid high apart m n added esp0 stack left (omega arith) (omega arith) in
+    agree_by_steps (code_of (plain_image file)) (code_of (new_image text code)) (Beside code_start high (IsNew text code laid))
+    (one_step code_start high apart (plain_image file) text code (plain_page file (plain_whole file r)) text_bytes laid) _ _ first 4096 256 (omega arith) (omega arith)
+
+-- ---- over those of the images
+not_held : (a : ℕ) (s : Segment) → (a < s.start) ⊎ (s.start + s.size ≤ a) → holds a s ≡ false
+not_held a s h = grind (arith, nat_tests)
+
+none_there : (f : Segment → Place) (x y : Segment) (b c : Bool) → b ≡ false → c ≡ false → option_map f (cond b (Some x) (cond c (Some y) None)) ≡ None
+none_there f x y b c p q = rw (p, q) refl
+
+same_there : (f : Segment → Place) (x x' y z : Segment) (b c d : Bool) → f x ≡ f x' → d ≡ false → option_map f (cond b (Some x) (cond c (Some y) None)) ≡ option_map f (cond b (Some x') (cond c (Some y) (cond d (Some z) None)))
+same_there f x x' y z true c d e q = ap Some e
+same_there f x x' y z false true d e q = refl
+same_there f x x' y z false false d e q = rw q refl
+
+free_place : (file : List ℕ) (a : ℕ) → 0x5FFFFFFF ≤ a → memory_of (plain_image file) a ≡ None
+unfolding memory_of segment_at
+free_place file a h =
+    none_there (place_in a) (text_segment file) room_segment (holds a (text_segment file)) (holds a room_segment)
+    (not_held a (text_segment file) (inr (omega arith))) (not_held a room_segment (inr (omega arith)))
+
+same_place : (file code : List ℕ) (a : ℕ) → (a < code_start) ⊎ (code_start + whole_pages (length code) ≤ a) → memory_of (plain_image file) a ≡ memory_of (new_image (text_of file) code) a
+unfolding memory_of segment_at
+same_place file code a h =
+    same_there (place_in a) (text_segment file) (kept_segment (text_of file)) room_segment (code_segment code) (holds a (text_segment file)) (holds a room_segment) (holds a (code_segment code))
+    refl (not_held a (code_segment code) h)
+
+images_added : (file code : List ℕ) → IsAdded code_start (code_start + whole_pages (length code)) (memory_of (plain_image file)) (memory_of (new_image (text_of file) code))
+images_added file code = record {
+  free = λ a p q. free_place file a (omega arith);
+  edge = λ a p. free_place file a (omega arith);
+  same = record { below = λ a p. same_place file code a (inl p); above = λ a p. same_place file code a (inr p) };
+}
+
+-- the images' own memories are such data
 pub new_file_agrees : NewFileAgrees
-new_file_agrees = ?
+new_file_agrees file code bytes r laid esp0 stack left start environment =
+    new_code_agrees file code bytes r laid (memory_of (plain_image file)) (memory_of (new_image (text_of file) code)) (images_added file code) esp0 stack left start environment

@@ -6,7 +6,9 @@ pub mod Fronts
 pub mod LayoutLemmas
 pub mod Lockstep
 pub mod MetPlaces
+pub mod NewPlaces
 pub mod PageAddresses
+pub mod PlaceRuns
 pub mod Outcomes
 pub mod PlainPage
 pub mod PushLemmas
