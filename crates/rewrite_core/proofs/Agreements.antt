@@ -1,16 +1,15 @@
 -- The run of the written code agrees with that of the old one, over any data and over those of the two images.
-use Rattle.std.proofs.Common.{◌≡◌, ◌⊎◌, ℕ, ◌+◌, ◌<◌, ◌≤◌, Bool, true, false, cond, List, length, drop, All, Option, Some, None, option_map, refl, ap, inl, inr, arith, length-drop}
+use Rattle.std.proofs.Common.{◌≡◌, ◌⊎◌, ℕ, ◌+◌, ◌<◌, ◌≤◌, Bool, true, false, cond, List, length, drop, All, Some, None, option_map, refl, ap, inl, inr, arith, length-drop}
 use Rattle.std.proofs.lemmas.List.{length-take-le}
 use Rattle.std.proofs.lemmas.List.Elements.{All-take, All-drop}
 use Rattle.std.proofs.lemmas.Bool.{and_parts, eqb-true}
 use Rattle.std.proofs.lemmas.Bool.Decides.{nat_tests}
-use Rattle.traces.specs.Plain.{AgreePlainly}
 use Rattle.elf_image.specs.declared.image.Segment.{Segment}
 use Rattle.elf_image.specs.Image.{holds, segment_at}
 use Rattle.elf_image.specs.Plain.{is_plain, plain_image, text_segment, room_segment}
 use Rattle.x86_meaning.specs.Memory.{Place, Memory, place_in, memory_of, stack_start}
 use Rattle.x86_meaning.specs.SystemCall.{Environment}
-use Rattle.x86_meaning.specs.Run.{IsStart, code_of, start_over, run_from}
+use Rattle.x86_meaning.specs.Run.{IsStart, code_of, start_over}
 use Rattle.rewrite_core.specs.Met.{IsApart, IsRewritable}
 use Rattle.rewrite_core.specs.Places.{page_start, IsLaid}
 use Rattle.rewrite_core.specs.Layout.{code_start, whole_pages, kept_segment, code_segment, new_image, text_of}

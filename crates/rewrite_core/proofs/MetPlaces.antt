@@ -1,17 +1,16 @@
 -- Which places a run can meet: those that can be reached in the page.
-use Rattle.std.proofs.Common.{◌≡◌, ◌≢◌, ℕ, suc, ◌+◌, ◌%◌, ◌<◌, ◌≤◌, ◌&&◌, true, false, not, leb, List, length, take, drop, Option, Some, None, refl, sym, ap, ◌∙◌, subst, inl, inr, arith, length-drop}
+use Rattle.std.proofs.Common.{◌≡◌, ◌≢◌, ℕ, suc, ◌+◌, ◌%◌, ◌<◌, ◌≤◌, ◌&&◌, true, false, not, leb, List, length, drop, Option, Some, refl, sym, ap, ◌∙◌, subst, inl, inr, arith, length-drop}
 use Rattle.std.proofs.lemmas.Bool.Decides.{leb_tells}
 use Rattle.elf_image.specs.declared.image.Image.{Image}
-use Rattle.elf_image.specs.Image.{code_byte_at}
 use Rattle.x86_meaning.specs.declared.instr.Instr.{Instr}
 use Rattle.x86_meaning.specs.declared.instr.Instr.TheVariants.{Mov, Jmp, Int80}
 use Rattle.x86_meaning.specs.Spells.{front}
 use Rattle.x86_meaning.specs.Run.{code_of}
 use Rattle.rewrite_core.specs.declared.places.Judgement.{Judgement}
-use Rattle.rewrite_core.specs.declared.places.Judgement.TheVariants.{GoesOn, Jumps, Ends, LeftOut}
+use Rattle.rewrite_core.specs.declared.places.Judgement.TheVariants.{GoesOn, Jumps, LeftOut}
 use Rattle.rewrite_core.specs.Met.{Met, entry, after_mov, after_call, target, IsApart, IsTaken}
-use Rattle.rewrite_core.specs.Places.{is_apart, page_start, place_of, target_of, judged_at, Reached, first, on, jump, IsLeftOut, Table, JumpsTo, Continues, StandsFor, IsLaid}
-use Rattle.rewrite_core.proofs.Fronts.{first_of, within_of, taken_first, goes_mov, goes_call, goes_jump, Stood, by_none, by_mov, by_call, by_jump, by_first, by_constant, stood_as}
+use Rattle.rewrite_core.specs.Places.{is_apart, place_of, target_of, judged_at, Reached, first, on, jump, IsLeftOut, JumpsTo, Continues, StandsFor, IsLaid}
+use Rattle.rewrite_core.proofs.Fronts.{within_of, taken_first, goes_mov, goes_call, goes_jump, Stood, by_none, by_mov, by_call, by_jump, by_first, by_constant, stood_as}
 use Rattle.rewrite_core.proofs.PageAddresses.{place_after, place_jumped}
 use Rattle.rewrite_core.proofs.PlainPage.{HasPage}
 

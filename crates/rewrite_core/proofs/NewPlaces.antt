@@ -1,5 +1,5 @@
 -- What stands at the new places of a page.
-use Rattle.std.proofs.Common.{◌≡◌, ℕ, ◌+◌, ◌-◌, ◌%◌, ◌<◌, ◌≤◌, List, [], ◌∷◌, ◌++◌, length, take, drop, replicate, min, All, Option, Some, None, refl, sym, ap, ◌∙◌, subst, inl, inr, arith, append_assoc, length-drop, length-take}
+use Rattle.std.proofs.Common.{◌≡◌, ℕ, ◌+◌, ◌-◌, ◌%◌, ◌<◌, ◌≤◌, List, ◌∷◌, ◌++◌, length, take, drop, replicate, min, All, Some, None, refl, sym, ap, ◌∙◌, inl, arith, append_assoc, length-drop, length-take}
 use Rattle.std.proofs.lemmas.List.{take-append-drop, length-take-le}
 use Rattle.std.proofs.lemmas.List.Elements.{All-drop}
 use Rattle.x86_meaning.specs.declared.instr.Instr.{Instr}
@@ -8,7 +8,6 @@ use Rattle.x86_meaning.specs.Spells.{front, word_bytes}
 use Rattle.x86_meaning.specs.Run.{code_of}
 use Rattle.x86_meaning.proofs.Spellings.{found, spelled_front}
 use Rattle.rewrite_core.specs.declared.places.Judgement.{Judgement}
-use Rattle.rewrite_core.specs.declared.places.Judgement.TheVariants.{GoesOn, Jumps, Ends, LeftOut}
 use Rattle.rewrite_core.specs.Places.{stop, judged_at, IsJump, JumpsTo, StandsFor, IsLaid}
 use Rattle.rewrite_core.specs.Layout.{code_start, whole_pages, in_pages, new_image}
 use Rattle.rewrite_core.proofs.Fronts.{front_take, within_of, Stood, by_none, by_mov, by_call, by_jump, by_first, by_constant, stood_as}

@@ -1,5 +1,5 @@
 -- The addresses of the places of the page.
-use Rattle.std.proofs.Common.{◌≡◌, ◌⊎◌, ℕ, ◌+◌, ◌-◌, ◌%◌, ◌<◌, ◌≤◌, true, false, cond, refl, sym, ap, ◌∙◌, subst, inl, inr, arith}
+use Rattle.std.proofs.Common.{◌≡◌, ◌⊎◌, ℕ, ◌+◌, ◌-◌, ◌%◌, ◌<◌, ◌≤◌, refl, ap, inl, inr, arith}
 use Rattle.std.proofs.lemmas.Bool.Decides.{leb_tells, nat_tests}
 use Rattle.rewrite_core.specs.Places.{page_start, place_of, target_of}
 
@@ -16,9 +16,6 @@ address a = elim (leb_tells page_start a) [
     | inr within ↦ inside (a - page_start) (omega (arith, from.1, within.1)) (omega (arith, from.1)) (let here : place_of a ≡ a - page_start = grind (arith, nat_tests) in here)
   ]
 ]
-
-pub place_within : (a : ℕ) → place_of a ≤ 4096
-place_within a = elim (address a) [ inside p h e q ↦ omega (arith, h, q) | beyond h q ↦ omega (arith, q) ]
 
 -- where an instruction stands, the address is that of its place
 pub at_place : (a : ℕ) → place_of a < 4096 → a ≡ page_start + place_of a

@@ -1,7 +1,6 @@
 -- The old code at a place and the new code at its new place go on beside each other.
-use Rattle.std.proofs.Common.{◌≡◌, ◌⊎◌, ℕ, ◌+◌, ◌%◌, ◌<◌, ◌≤◌, true, List, length, take, drop, All, Option, Some, None, refl, sym, ap, ◌∙◌, subst, inl, inr, arith}
+use Rattle.std.proofs.Common.{◌≡◌, ℕ, ◌+◌, ◌%◌, ◌<◌, true, List, take, drop, All, Option, Some, None, refl, sym, ap, ◌∙◌, subst, inl, inr, arith}
 use Rattle.std.proofs.lemmas.List.Elements.{All-drop}
-use Rattle.traces.specs.Trace.{Label, Go}
 use Rattle.x86_values.specs.Words.{word_of}
 use Rattle.elf_image.specs.declared.image.Image.{Image}
 use Rattle.x86_meaning.specs.declared.instr.Reg.{Reg}
@@ -14,16 +13,16 @@ use Rattle.x86_meaning.specs.StateLaws.{IsForgotten}
 use Rattle.x86_meaning.proofs.Spellings.{spelled_front}
 use Rattle.x86_meaning.proofs.States.{step_forgets}
 use Rattle.rewrite_core.specs.declared.places.Judgement.{Judgement}
-use Rattle.rewrite_core.specs.declared.places.Judgement.TheVariants.{GoesOn, Jumps, Ends, LeftOut}
+use Rattle.rewrite_core.specs.declared.places.Judgement.TheVariants.{GoesOn}
 use Rattle.rewrite_core.specs.Met.{IsApart}
-use Rattle.rewrite_core.specs.Places.{is_apart, place_of, target_of, stop, judged_at, IsJump, JumpsTo, Continues, StandsFor, IsLaid}
+use Rattle.rewrite_core.specs.Places.{is_apart, place_of, target_of, stop, judged_at, JumpsTo, Continues, StandsFor, IsLaid}
 use Rattle.rewrite_core.specs.Layout.{code_start, new_image}
 use Rattle.rewrite_core.proofs.Fronts.{Stood, by_none, by_mov, by_call, by_jump, by_first, by_constant, stood_as}
 use Rattle.rewrite_core.proofs.PageAddresses.{address_after, place_jumped}
 use Rattle.rewrite_core.proofs.PlainPage.{HasPage}
 use Rattle.rewrite_core.proofs.MetPlaces.{apart-true, stands_within, stands_for}
 use Rattle.rewrite_core.proofs.NewPlaces.{new_stop, new_jump, new_same, same_within, jump_within, new_within, jump_leads}
-use Rattle.rewrite_core.proofs.Lockstep.{Alike, alike_on, IsStepAway, Soon}
+use Rattle.rewrite_core.proofs.Lockstep.{Alike, alike_on, Soon}
 use Rattle.rewrite_core.proofs.Added.{Away}
 use Rattle.rewrite_core.proofs.BesideStates.{Beside, IsAway, constant_away, none_alike, mov_alike, call_alike, jump_alike, next_alike, at_places, jumped, jump_goes, beside_jumped}
 
