@@ -10,11 +10,12 @@ pub mod LaidCode
 pub mod LayoutLemmas
 pub mod Lockstep
 pub mod MetPlaces
+pub mod NewPlaces
+pub mod PageAddresses
+pub mod PlaceRuns
 pub mod Outcomes
 pub mod PartCodes
 pub mod PlacedParts
 pub mod PlacingSteps
 pub mod PlainPage
 pub mod PushLemmas
-pub mod StraightRuns
-pub mod Straights

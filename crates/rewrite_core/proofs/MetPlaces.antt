@@ -1,21 +1,21 @@
--- Which places a run can meet: those of the straight list.
-use Rattle.std.proofs.Common.{◌≡◌, ◌≢◌, ℕ, zero, suc, ◌+◌, ◌<◌, ◌≤◌, ◌&&◌, true, false, not, leb, List, [], ◌∷◌, length, drop, Option, Some, None, refl, sym, ap, ◌∙◌, subst, inl, inr, arith, length-drop, add_assoc}
-use Rattle.std.proofs.lemmas.List.{drop-drop}
+-- Which places a run can meet: those that can be reached in the page.
+use Rattle.std.proofs.Common.{◌≡◌, ◌≢◌, ℕ, suc, ◌+◌, ◌%◌, ◌<◌, ◌≤◌, ◌&&◌, true, false, not, leb, List, length, drop, Option, Some, refl, sym, ap, ◌∙◌, subst, inl, inr, arith, length-drop}
 use Rattle.std.proofs.lemmas.Bool.Decides.{leb_tells}
 use Rattle.elf_image.specs.declared.image.Image.{Image}
-use Rattle.elf_image.specs.Image.{code_byte_at}
 use Rattle.x86_meaning.specs.declared.instr.Instr.{Instr}
 use Rattle.x86_meaning.specs.declared.instr.Instr.TheVariants.{Mov, Jmp, Int80}
 use Rattle.x86_meaning.specs.Spells.{front}
 use Rattle.x86_meaning.specs.Run.{code_of}
-use Rattle.rewrite_core.specs.declared.straight.Judgement.TheVariants.{GoesOn, Ends, LeftOut}
+use Rattle.rewrite_core.specs.declared.places.Judgement.{Judgement}
+use Rattle.rewrite_core.specs.declared.places.Judgement.TheVariants.{GoesOn, Jumps, LeftOut}
 use Rattle.rewrite_core.specs.Met.{Met, entry, after_mov, after_call, target, IsApart, IsTaken}
-use Rattle.rewrite_core.specs.Straight.{judged, and_more, straight_length, is_apart}
-use Rattle.rewrite_core.proofs.Fronts.{first_of, judged_within, taken_first, goes_mov, goes_call, jump_is_left, GoesBy, by_mov, by_call, goes_by, LeftBy, by_first, by_constant, left_by}
-use Rattle.rewrite_core.proofs.Straights.{straight_on, straight_ends, straight_none}
+use Rattle.rewrite_core.specs.Places.{is_apart, place_of, target_of, judged_at, Reached, first, on, jump, IsLeftOut, JumpsTo, Continues, StandsFor, IsLaid}
+use Rattle.rewrite_core.proofs.Fronts.{within_of, taken_first, goes_mov, goes_call, goes_jump, Stood, by_none, by_mov, by_call, by_jump, by_first, by_constant, stood_as}
+use Rattle.rewrite_core.proofs.PageAddresses.{place_after, place_jumped}
+use Rattle.rewrite_core.proofs.PlainPage.{HasPage}
 
 -- the tests of a constant
-apart-true : (n : ℕ) → is_apart n ≡ true → IsApart n
+pub apart-true : (n : ℕ) → is_apart n ≡ true → IsApart n
 apart-true n e = elim (leb_tells 0x60000000 n) [
   | inr h ↦ inl h.1
   | inl h ↦ elim (leb_tells (suc n) 0x7C000000) [
@@ -31,105 +31,145 @@ true-apart n (inr h) = elim (leb_tells 0x60000000 n) [
   | inl k ↦ elim (leb_tells (suc n) 0x7C000000) [ inl q ↦ absurd (omega (arith, q.1, h)) | inr q ↦ rw (k.0, q.0) refl ]
 ]
 
--- the places of the straight list of a page, as offsets
-data Reached (page : List ℕ) : ℕ → Type 0 where
-  here : Reached page 0
-  on : {k : ℕ} → (len : ℕ) → Reached page k → judged (drop k page) ≡ GoesOn len → Reached page (k + len)
+-- an instruction stands and ends in the page
+pub record IsWithin (p len : ℕ) : Type 0 where
+  pub some : 1 ≤ len
+  pub inside : p < 4096
+  pub ends : p + len ≤ 4096
 
-reached_within : {page : List ℕ} {k : ℕ} → Reached page k → k ≤ length page
-reached_within here = omega arith
-reached_within {page} (on {k} len r e) = let w = judged_within (drop k page) len e in omega (arith, reached_within r, w.1, length-drop k page)
+pub stands_within : (page : List ℕ) (p : ℕ) (i : Instr) (len : ℕ) → length page ≡ 4096 → front (drop p page) ≡ Some (i, len) → IsWithin p len
+stands_within page p i len whole e =
+    let w = within_of (drop p page) i len e in
+    record { some = w.0; inside = omega (arith, w.0, w.1, length-drop p page); ends = omega (arith, w.0, w.1, length-drop p page) }
 
--- where the whole list is taken, so is what is left of it at each of its places
-reached_taken : {page : List ℕ} {k : ℕ} → straight_length page ≢ None → Reached page k → straight_length (drop k page) ≢ None
-reached_taken h here = h
-reached_taken {page} h (on {k} len r e) = λ z.
-    let one : straight_length (drop len (drop k page)) ≡ None = ap straight_length (drop-drop len k page) ∙ z in
-    reached_taken h r (straight_on (drop k page) len e ∙ ap (and_more len) one)
+-- ---- what has a new place
+module _ (page code : List ℕ) (laid : IsLaid page code) where
+  pub stands_for : (p q : ℕ) (j : Judgement) → laid.table p ≡ Some q → judged_at page p ≡ j → StandsFor page code laid.table p q j
+  stands_for p q j at e = subst (StandsFor page code laid.table p q) e (laid.stands p q at).1
 
-not_left : {page : List ℕ} {k : ℕ} → straight_length page ≢ None → Reached page k → judged (drop k page) ≢ LeftOut
-not_left {page} {k} h r = λ z. reached_taken h r (straight_none (drop k page) z)
+  not_left_out : (p q : ℕ) → laid.table p ≡ Some q → judged_at page p ≢ LeftOut
+  not_left_out p q at e = stands_for p q LeftOut at e
 
--- nothing is left
-ends_of : (bs : List ℕ) → length bs ≤ 0 → judged bs ≡ Ends
-unfolding judged
-ends_of [] h = refl
-ends_of (b ∷ bs) h = absurd (omega arith)
+  goes_placed : (p q len : ℕ) → laid.table p ≡ Some q → judged_at page p ≡ GoesOn len → (to : ℕ) × (laid.table (p + len) ≡ Some to)
+  goes_placed p q len at e = continues (stands_for p q (GoesOn len) at e).1
+    where
+      continues : Continues code laid.table (q + len) (p + len) → (to : ℕ) × (laid.table (p + len) ≡ Some to)
+      continues (inl h) = (q + len, h)
+      continues (inr j) = (j.to, j.at)
 
-some_more : (len : ℕ) (o : Option ℕ) → and_more len o ≡ None → o ≡ None
-some_more len None e = refl
-some_more len (Some n) e = cc
+  jumps_placed : (p q to : ℕ) → laid.table p ≡ Some q → judged_at page p ≡ Jumps to → (r : ℕ) × (laid.table to ≡ Some r)
+  jumps_placed p q to at e = let j : JumpsTo code laid.table q to = stands_for p q (Jumps to) at e in (j.to, j.at)
 
--- an image whose code is this page
-pub record HasPage (image : Image) (page : List ℕ) (base : ℕ) : Type 0 where
-  pub entry_is : image.entry ≡ base
-  pub below : base + length page < 4294967296
-  pub stands : (k : ℕ) → k ≤ length page → code_of image (base + k) ≡ front (drop k page)
-  pub byte_is : (k : ℕ) → k ≤ length page → code_byte_at image (base + k) ≡ first_of (drop k page)
+-- ---- an image whose code is a page
+module _ (image : Image) (page : List ℕ) (has : HasPage image page) where
+  spelled_at : (a : ℕ) (o : Option (Instr × ℕ)) → code_of image a ≡ o → front (drop (place_of a) page) ≡ o
+  spelled_at a o e = sym (has.stands a) ∙ e
 
-record IsReached (page : List ℕ) (base a : ℕ) : Type 0 where
-  place : ℕ
-  is : a ≡ base + place
-  reached : Reached page place
+  within_at : (a : ℕ) (i : Instr) (len : ℕ) → code_of image a ≡ Some (i, len) → IsWithin (place_of a) len
+  within_at a i len e = stands_within page (place_of a) i len has.whole (spelled_at a (Some (i, len)) e)
 
-module _ (image : Image) (page : List ℕ) (base : ℕ) (has : HasPage image page base) where
-  stands_at : (a k : ℕ) (o : Option (Instr × ℕ)) → a ≡ base + k → k ≤ length page → code_of image a ≡ o → front (drop k page) ≡ o
-  stands_at a k o e h q = sym (has.stands k h) ∙ ap (code_of image) (sym e) ∙ q
+  module _ (code : List ℕ) (laid : IsLaid page code) where
+    abbrev HasNew : ℕ → Type 0
+    HasNew p = (q : ℕ) × (laid.table p ≡ Some q)
 
-  -- a met place is one of the list
-  met_reached : straight_length page ≢ None → {a : ℕ} → Met image a → IsReached page base a
-  met_reached h entry = record { place = 0; is = has.entry_is ∙ omega arith; reached = here }
-  met_reached h (after_mov {a} to from len m e) =
-      let r = met_reached h m in
-      let f = stands_at a r.place (Some (Mov to from, len)) r.is (reached_within r.reached) e in
-      let g = goes_mov (drop r.place page) to from len (not_left h r.reached) f in
-      record { place = r.place + len; is = ap (λ x. x + len) r.is ∙ add_assoc base r.place len; reached = on len r.reached g.0 }
-  met_reached h (after_call {a} len m e) =
-      let r = met_reached h m in
-      let f = stands_at a r.place (Some (Int80, len)) r.is (reached_within r.reached) e in
-      record { place = r.place + len; is = ap (λ x. x + len) r.is ∙ add_assoc base r.place len; reached = on len r.reached (goes_call (drop r.place page) len (not_left h r.reached) f) }
-  met_reached h (target {a} by len m e) =
-      let r = met_reached h m in
-      let f = stands_at a r.place (Some (Jmp by, len)) r.is (reached_within r.reached) e in
-      absurd (not_left h r.reached (jump_is_left (drop r.place page) by len f))
+    -- a run that goes on from a place that has a new one comes to one that has
+    next_placed : (a q : ℕ) (i : Instr) (len : ℕ) → laid.table (place_of a) ≡ Some q → code_of image a ≡ Some (i, len) → judged_at page (place_of a) ≡ GoesOn len → HasNew (place_of (a + len))
+    next_placed a q i len at e g =
+        let w = within_at a i len e in
+        let next = goes_placed page code laid (place_of a) q len at g in
+        (next.0, ap laid.table (place_after a len w.inside w.ends) ∙ next.1)
 
-  -- so a file whose straight list is taken is taken
-  pub is_taken : straight_length page ≢ None → IsTaken image
-  is_taken h = record {
-    begins = λ a b m e.
-        let r = met_reached h m in
-        let f : first_of (drop r.place page) ≡ Some b = sym (has.byte_is r.place (reached_within r.reached)) ∙ ap (code_byte_at image) (sym r.is) ∙ e in
-        taken_first (drop r.place page) b (not_left h r.reached) f;
-    apart = λ a to from len m e.
-        let r = met_reached h m in
-        let f = stands_at a r.place (Some (Mov to from, len)) r.is (reached_within r.reached) e in
-        apart-true from (goes_mov (drop r.place page) to from len (not_left h r.reached) f).1;
-  }
+    -- each met place has a new one
+    met_placed : {a : ℕ} → Met image a → HasNew (place_of a)
+    met_placed entry = (0, ap (λ (x : ℕ). laid.table (place_of x)) has.entry_is ∙ laid.first)
+    met_placed (after_mov {a} to from len m e) =
+        let at = met_placed m in
+        let left = not_left_out page code laid (place_of a) at.0 at.1 in
+        next_placed a at.0 (Mov to from) len at.1 e (goes_mov (place_of a) (drop (place_of a) page) to from len left (spelled_at a _ e)).0
+    met_placed (after_call {a} len m e) =
+        let at = met_placed m in
+        let left = not_left_out page code laid (place_of a) at.0 at.1 in
+        next_placed a at.0 Int80 len at.1 e (goes_call (place_of a) (drop (place_of a) page) len left (spelled_at a _ e))
+    met_placed (target {a} by len m e) =
+        let at = met_placed m in
+        let left = not_left_out page code laid (place_of a) at.0 at.1 in
+        let w = within_at a (Jmp by) len e in
+        let g = goes_jump (place_of a) (drop (place_of a) page) by len left (spelled_at a _ e) in
+        let next = jumps_placed page code laid (place_of a) at.0 (target_of (place_of a + len) by) at.1 g in
+        (next.0, ap laid.table (sym (place_jumped a len by w.inside)) ∙ next.1)
 
-  -- the next place of the list is met too
-  met_on : (k len : ℕ) (o : Option (Instr × ℕ)) → Met image (base + k) → code_of image (base + k) ≡ o → GoesBy len o → Met image (base + k + len)
-  met_on k len _ m e (by_mov to from) = after_mov to from len m e
-  met_on k len _ m e by_call = after_call len m e
+    -- so a page that has new code is taken
+    pub laid_is_taken : IsTaken image
+    laid_is_taken = record {
+      begins = λ a b m e.
+          let at = met_placed m in
+          taken_first (place_of a) (drop (place_of a) page) b (not_left_out page code laid (place_of a) at.0 at.1) (sym (has.byte_is a) ∙ e);
+      apart = λ a to from len m e.
+          let at = met_placed m in
+          let left = not_left_out page code laid (place_of a) at.0 at.1 in
+          apart-true from (goes_mov (place_of a) (drop (place_of a) page) to from len left (spelled_at a _ e)).1;
+    }
 
-  never_left : IsTaken image → (k : ℕ) → k ≤ length page → Met image (base + k) → LeftBy (drop k page) → ⊥
-  never_left t k h m (by_first b f q) = let z = t.begins (base + k) b m (has.byte_is k h ∙ f) in cc
-  never_left t k h m (by_constant to from len f q) = let z = true-apart from (t.apart (base + k) to from len m (has.stands k h ∙ f)) in cc
+  -- ---- what is left out
+  -- a place of a met address
+  record IsMet (p : ℕ) : Type 0 where
+    address : ℕ
+    met : Met image address
+    place : place_of address ≡ p
 
-  taken_from : IsTaken image → (n k : ℕ) → length (drop k page) ≤ n → k ≤ length page → Met image (base + k) → straight_length (drop k page) ≢ None
-  taken_from t zero k few h m z =
-      let e : judged (drop k page) ≡ Ends = ends_of (drop k page) few in
-      let f = sym (straight_ends (drop k page) e) ∙ z in cc
-  taken_from t (suc n) k few h m z =
-      (elim (judged (drop k page)) as (λ j. judged (drop k page) ≡ j → ⊥) [
-        | GoesOn len ↦ λ e.
-            let w = judged_within (drop k page) len e in
-            let next = met_on k len (front (drop k page)) m (has.stands k h) (goes_by (drop k page) len e) in
-            let more = taken_from t n (k + len) (omega (arith, few, w.0, w.1, length-drop k page, length-drop (k + len) page)) (omega (arith, h, w.1, length-drop k page)) (let P = λ (x : ℕ). Met image x in subst P (add_assoc base k len) next) in
-            more (some_more len (straight_length (drop (k + len) page)) (ap (λ r. and_more len (straight_length r)) (sym (drop-drop len k page)) ∙ sym (straight_on (drop k page) len e) ∙ z))
-        | Ends ↦ λ e. let f = sym (straight_ends (drop k page) e) ∙ z in cc
-        | LeftOut ↦ λ e. never_left t k h m (left_by (drop k page) e)
-      ]) refl
+  stood_at : (p : ℕ) (j : Judgement) (m : IsMet p) → judged_at page p ≡ j → Stood (place_of m.address) (drop (place_of m.address) page) j
+  stood_at p j m e = stood_as (place_of m.address) (drop (place_of m.address) page) j (ap (judged_at page) m.place ∙ e)
 
-  -- and a file that is taken has a list that is
-  pub has_list : IsTaken image → straight_length page ≢ None
-  has_list t = taken_from t (length page) 0 (omega arith) (omega arith) (let P = λ (x : ℕ). Met image x in subst P (has.entry_is ∙ omega arith) entry)
+  code_at : (a : ℕ) (o : Option (Instr × ℕ)) → front (drop (place_of a) page) ≡ o → code_of image a ≡ o
+  code_at a o e = has.stands a ∙ e
+
+  on_met : (p a len : ℕ) (i : Instr) → place_of a ≡ p → code_of image a ≡ Some (i, len) → Met image (a + len) → IsMet (p + len)
+  on_met p a len i e c m =
+      let w = within_at a i len c in
+      record { address = a + len; met = m; place = place_after a len w.inside w.ends ∙ ap (λ (k : ℕ). k + len) e }
+
+  goes_met : (p a n : ℕ) (j : Judgement) → place_of a ≡ p → Met image a → Stood (place_of a) (drop (place_of a) page) j → j ≡ GoesOn n → IsMet (p + n)
+  goes_met p a n _ e m (by_none c) q = cc
+  goes_met p a n _ e m (by_mov to from len c h) q =
+      let same : len ≡ n = cc in
+      let s = code_at a _ c in
+      subst (λ (k : ℕ). IsMet (p + k)) same (on_met p a len (Mov to from) e s (after_mov to from len m s))
+  goes_met p a n _ e m (by_call len c) q =
+      let same : len ≡ n = cc in
+      let s = code_at a _ c in
+      subst (λ (k : ℕ). IsMet (p + k)) same (on_met p a len Int80 e s (after_call len m s))
+  goes_met p a n _ e m (by_jump by len c) q = cc
+  goes_met p a n _ e m (by_first b c h) q = cc
+  goes_met p a n _ e m (by_constant to from len c h) q = cc
+
+  jumps_met : (a to : ℕ) (j : Judgement) → Met image a → Stood (place_of a) (drop (place_of a) page) j → j ≡ Jumps to → IsMet to
+  jumps_met a to _ m (by_none c) q = cc
+  jumps_met a to _ m (by_mov r from len c h) q = cc
+  jumps_met a to _ m (by_call len c) q = cc
+  jumps_met a to _ m (by_jump by len c) q =
+      let same : target_of (place_of a + len) by ≡ to = cc in
+      let s = code_at a _ c in
+      let w = within_at a (Jmp by) len s in
+      record { address = (a + len + by) % 4294967296; met = target by len m s; place = sym (place_jumped a len by w.inside) ∙ same }
+  jumps_met a to _ m (by_first b c h) q = cc
+  jumps_met a to _ m (by_constant r from len c h) q = cc
+
+  -- each place that can be reached is that of a met address
+  reached_met : {p : ℕ} → Reached page p → IsMet p
+  reached_met first = record { address = image.entry; met = entry; place = ap place_of has.entry_is }
+  reached_met (on {p} len r e) = let m = reached_met r in goes_met p m.address len _ m.place m.met (stood_at p (GoesOn len) m e) refl
+  reached_met (jump {p} to r e) = let m = reached_met r in jumps_met m.address to _ m.met (stood_at p (Jumps to) m e) refl
+
+  never_left : (a : ℕ) (j : Judgement) → IsTaken image → Met image a → Stood (place_of a) (drop (place_of a) page) j → j ≡ LeftOut → ⊥
+  never_left a _ t m (by_none c) q = cc
+  never_left a _ t m (by_mov to from len c h) q = cc
+  never_left a _ t m (by_call len c) q = cc
+  never_left a _ t m (by_jump by len c) q = cc
+  never_left a _ t m (by_first b c h) q = let z = t.begins a b m (has.byte_is a ∙ c) in cc
+  never_left a _ t m (by_constant to from len c h) q = let z = true-apart from (t.apart a to from len m (code_at a _ c)) in cc
+
+  -- so a page that has a place that is left out isn't taken
+  pub left_out_is_not_taken : IsLeftOut page → IsTaken image → ⊥
+  left_out_is_not_taken l t =
+      let m = reached_met l.reached in
+      never_left m.address LeftOut t m.met (stood_at l.at LeftOut m l.left_out) refl

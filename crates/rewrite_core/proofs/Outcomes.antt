@@ -1,6 +1,6 @@
--- What the reading of a file and its straight list say of its rewriting.
-use Rattle.std.proofs.Common.{◌≡◌, ℕ, ◌+◌, ◌≤◌, ◌==◌, ◌&&◌, Bool, true, false, not, cond, ltb, List, length, take, drop, get_or, min, Option, Some, None, refl, sym, ap, ◌∙◌, subst, inl, inr, arith, length-drop, length-take, length-append}
-use Rattle.std.proofs.lemmas.Bool.{ltb-true, ltb-false}
+-- What the reading of a file and its new code say of its rewriting.
+use Rattle.std.proofs.Common.{◌≡◌, ℕ, ◌≤◌, ◌==◌, ◌&&◌, Bool, true, false, not, cond, ltb, List, length, drop, get_or, min, Option, Some, None, refl, ◌∙◌, inl, inr, arith, length-drop, length-take}
+use Rattle.std.proofs.lemmas.Bool.{ltb-false}
 use Rattle.std.proofs.lemmas.Bool.Decides.{eqb_tells}
 use Rattle.elf_image.specs.declared.image.Image.{Image}
 use Rattle.elf_image.specs.declared.image.Segment.{Segment}
@@ -10,10 +10,10 @@ use Rattle.elf_image.specs.Fields.{has_magic}
 use Rattle.elf_image.specs.Refusals.{first}
 use Rattle.elf_image.specs.Plain.{is_plain, plain_tests, plain_image}
 use Rattle.rewrite_core.specs.Met.{IsRewritable}
-use Rattle.rewrite_core.specs.Straight.{straight_length, straight_code, stop}
-use Rattle.rewrite_core.specs.Written.{text_of}
+use Rattle.rewrite_core.specs.Places.{IsLeftOut, IsLaid}
+use Rattle.rewrite_core.specs.Layout.{text_of}
 use Rattle.rewrite_core.specs.Rewrites.{IsRefused}
-use Rattle.rewrite_core.proofs.MetPlaces.{is_taken, has_list}
+use Rattle.rewrite_core.proofs.MetPlaces.{laid_is_taken, left_out_is_not_taken}
 use Rattle.rewrite_core.proofs.PlainPage.{plain_page}
 
 -- a file that the reader takes
@@ -51,50 +51,23 @@ not_false : (b : Bool) → not b ≡ false → b ≡ true
 not_false true e = refl
 not_false false e = cc
 
-not_true : (b : Bool) → not b ≡ true → b ≡ false
-not_true true e = cc
-not_true false e = refl
-
 pub plain_file : (file : List ℕ) → first (plain_tests file) ≡ None → IsPlainFile file
 plain_file file e =
     let h = none_holds (ltb (length file) 52) (not (has_magic file)) (not (is_plain file)) e in
     let plain = not_false (is_plain file) h.2 in
     record { long = ltb-false (length file) 52 h.0; magic = not_false (has_magic file) h.1; plain = plain; whole = whole_text file (plain_length file plain) }
 
--- a refusal of the reader is the first of the file
-data Refuses (a b c : Bool) : Refusal → Type 0 where
-  short : a ≡ true → Refuses a b c Short
-  magic : a ≡ false → b ≡ true → Refuses a b c Magic
-  not_yet : a ≡ false → b ≡ false → c ≡ true → Refuses a b c NotYet
+-- a plain file in which a run can reach what isn't taken yet isn't rewritten
+pub left_out_refuses : (file : List ℕ) → IsPlainFile file → IsLeftOut (text_of file) → IsRefused file NotYet
+left_out_refuses file p l = (p.long, p.magic, λ t. left_out_is_not_taken (plain_image file) (text_of file) (plain_page file p.whole) l t.taken)
 
-some_holds : (a b c : Bool) (r : Refusal) → chosen a b c ≡ Some r → Refuses a b c r
-some_holds true b c r e = let same : Short ≡ r = cc in subst (Refuses true b c) same (short refl)
-some_holds false true c r e = let same : Magic ≡ r = cc in subst (Refuses false true c) same (magic refl refl)
-some_holds false false true r e = let same : NotYet ≡ r = cc in subst (Refuses false false true) same (not_yet refl refl refl)
-some_holds false false false r e = cc
-
-refused_by : (file : List ℕ) (r : Refusal) → Refuses (ltb (length file) 52) (not (has_magic file)) (not (is_plain file)) r → IsRefused file r
-refused_by file _ (short h) = ltb-true (length file) 52 h
-refused_by file _ (magic h k) = (ltb-false (length file) 52 h, not_true (has_magic file) k)
-refused_by file _ (not_yet h k n) = (ltb-false (length file) 52 h, not_false (has_magic file) k, λ t. let p = t.plain in let q = not_true (is_plain file) n in cc)
-
-pub reader_refuses : (file : List ℕ) (r : Refusal) → first (plain_tests file) ≡ Some r → IsRefused file r
-reader_refuses file r e = refused_by file r (some_holds (ltb (length file) 52) (not (has_magic file)) (not (is_plain file)) r e)
-
--- a plain file whose straight list isn't taken isn't rewritten
-pub list_refuses : (file : List ℕ) → IsPlainFile file → straight_length (text_of file) ≡ None → IsRefused file NotYet
-list_refuses file p e = (p.long, p.magic, λ t. has_list (plain_image file) (text_of file) 0x08049000 (plain_page file p.whole) t.taken e)
-
--- one whose list is taken is
-pub list_takes : (file : List ℕ) (n : ℕ) → IsPlainFile file → straight_length (text_of file) ≡ Some n → IsRewritable file
-list_takes file n p e = record {
+-- one whose page has new code is
+pub laid_takes : (file code : List ℕ) → IsPlainFile file → IsLaid (text_of file) code → IsRewritable file
+laid_takes file code p laid = record {
   magic = p.magic;
   plain = p.plain;
-  taken = is_taken (plain_image file) (text_of file) 0x08049000 (plain_page file p.whole) (λ z. let q = sym e ∙ z in cc);
+  taken = laid_is_taken (plain_image file) (text_of file) (plain_page file p.whole) code laid;
 }
-
-pub length-straight_code : (text : List ℕ) (n : ℕ) → n ≤ length text → length (straight_code n text) ≡ n + 2
-length-straight_code text n h = let m : min n (length text) ≡ n = omega arith in length-append (take n text) stop ∙ ap (λ k. k + 2) (length-take n text ∙ m)
 
 -- the page of code of the image that was read
 pub text_is : (file : List ℕ) (image : Image) (segments : List Segment) (d : Segment) → image ≡ plain_image file → segments ≡ image.segments → (get_or segments 0 d).bytes ≡ text_of file

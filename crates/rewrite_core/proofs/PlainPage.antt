@@ -1,16 +1,25 @@
 -- The code of a plain file is its one page.
-use Rattle.std.proofs.Common.{◌≡◌, ◌⊎◌, ℕ, zero, suc, ◌+◌, ◌-◌, ◌<◌, ◌≤◌, true, List, ◌∷◌, length, take, drop, get_or, Some, refl, sym, ap, ◌∙◌, ⊎_elim, arith, add-one}
+use Rattle.std.proofs.Common.{◌≡◌, ◌⊎◌, ℕ, zero, suc, ◌+◌, ◌-◌, ◌<◌, ◌≤◌, Bool, true, false, cond, List, [], ◌∷◌, length, take, drop, get_or, Option, Some, None, refl, sym, ap, ◌∙◌, inl, inr, ⊎_elim, arith, add-one}
 use Rattle.std.proofs.Math.Seq.{drop-cons}
 use Rattle.std.proofs.lemmas.List.{drop_all}
 use Rattle.std.proofs.lemmas.Bool.{le-leb}
+use Rattle.std.proofs.lemmas.Bool.Decides.{nat_tests}
 use Rattle.elf_image.specs.declared.image.Image.{Image}
 use Rattle.elf_image.specs.Image.{segment_at, holds, code_byte_in, code_byte_at, code_bytes, then_code}
-use Rattle.elf_image.specs.Plain.{plain_image, text_segment}
+use Rattle.elf_image.specs.Plain.{plain_image, text_segment, room_segment}
 use Rattle.x86_meaning.specs.Spells.{front}
 use Rattle.x86_meaning.specs.Run.{code_of}
-use Rattle.rewrite_core.specs.Written.{text_of}
+use Rattle.rewrite_core.specs.Places.{page_start, place_of}
+use Rattle.rewrite_core.specs.Layout.{text_of}
 use Rattle.rewrite_core.proofs.Fronts.{first_of, front_take}
-use Rattle.rewrite_core.proofs.MetPlaces.{HasPage}
+use Rattle.rewrite_core.proofs.PageAddresses.{inside, beyond, address}
+
+-- an image whose code is this page: at each address stands what stands at its place
+pub record HasPage (image : Image) (page : List ℕ) : Type 0 where
+  pub entry_is : image.entry ≡ page_start
+  pub whole : length page ≡ 4096
+  pub stands : (a : ℕ) → code_of image a ≡ front (drop (place_of a) page)
+  pub byte_is : (a : ℕ) → code_byte_at image a ≡ first_of (drop (place_of a) page)
 
 exact_or : {k n : ℕ} → k ≤ n → (k < n) ⊎ (k ≡ n)
 exact_or h = grind arith
@@ -52,11 +61,47 @@ module _ (file : List ℕ) (whole : length (text_of file) ≡ 4096) where
       (λ e. rw e (sym (ap first_of (drop_all 4096 (text_of file) (omega (arith, whole))))))
       cases
 
-  pub plain_page : HasPage (plain_image file) (text_of file) 0x08049000
+  -- outside the page nothing can be run
+  none_beyond : (a : ℕ) → (a < 0x08049000) ⊎ (0x08049000 + 4096 ≤ a) → code_byte_at (plain_image file) a ≡ None
+  unfolding segment_at
+  none_beyond a h = ap (code_byte_in a) (second_alone (holds a (text_segment file)) (holds a room_segment) (not_in_text a h)) ∙ not_run (holds a room_segment)
+    where
+      not_in_text : (a : ℕ) → (a < 0x08049000) ⊎ (0x08049000 + 4096 ≤ a) → holds a (text_segment file) ≡ false
+      not_in_text a (inl h) = grind (arith, nat_tests)
+      not_in_text a (inr h) = grind (arith, nat_tests)
+
+      second_alone : (b c : Bool) → b ≡ false → cond b (Some (text_segment file)) (cond c (Some room_segment) None) ≡ cond c (Some room_segment) None
+      second_alone b c e = rw e refl
+
+      not_run : (c : Bool) → code_byte_in a (cond c (Some room_segment) None) ≡ None
+      not_run true = refl
+      not_run false = refl
+
+  none_stands : (a : ℕ) → code_byte_at (plain_image file) a ≡ None → code_of (plain_image file) a ≡ None
+  unfolding code_of code_bytes front
+  none_stands a e = ap (λ (o : Option ℕ). front (then_code o (code_bytes (plain_image file) (a + 1) 14))) e
+
+  at_end : drop 4096 (text_of file) ≡ []
+  at_end = drop_all 4096 (text_of file) (omega (arith, whole))
+
+  none_at_end : front (drop 4096 (text_of file)) ≡ None
+  unfolding front
+  none_at_end = ap front at_end
+
+  in_page : (k : ℕ) → k ≤ length (text_of file) → code_of (plain_image file) (0x08049000 + k) ≡ front (drop k (text_of file))
   unfolding code_of
+  in_page k h = ap front (code_bytes-page (plain_image file) (text_of file) 0x08049000 byte_is 15 k h) ∙ front_take (drop k (text_of file))
+
+  pub plain_page : HasPage (plain_image file) (text_of file)
   plain_page = record {
     entry_is = refl;
-    below = omega (arith, whole);
-    stands = λ k h. ap front (code_bytes-page (plain_image file) (text_of file) 0x08049000 byte_is 15 k h) ∙ front_take (drop k (text_of file));
-    byte_is = byte_is;
+    whole = whole;
+    stands = λ a. elim (address a) [
+      | inside p h e q ↦ ap (code_of (plain_image file)) e ∙ in_page p (omega (arith, whole)) ∙ ap (λ (k : ℕ). front (drop k (text_of file))) (sym q)
+      | beyond h q ↦ none_stands a (none_beyond a h) ∙ sym (ap (λ (k : ℕ). front (drop k (text_of file))) q ∙ none_at_end)
+    ];
+    byte_is = λ a. elim (address a) [
+      | inside p h e q ↦ ap (code_byte_at (plain_image file)) e ∙ byte_is p (omega (arith, whole)) ∙ ap (λ (k : ℕ). first_of (drop k (text_of file))) (sym q)
+      | beyond h q ↦ none_beyond a h ∙ sym (ap (λ (k : ℕ). first_of (drop k (text_of file))) q ∙ ap first_of at_end)
+    ];
   }
