@@ -17,10 +17,10 @@ use Rattle.elf_image.specs.Refusals.{first, segment_tests, segments_of, refusal_
 use Rattle.elf_image.specs.Image.{image_of, segment_of}
 use Rattle.elf_image.specs.Plain.{is_plain, is_plain_text, is_plain_room, has_plain_header, plain_image, text_segment, room_segment, ReadsPlain, PlainIsAccepted}
 
--- the two program headers of a plain file with n bytes of code
 abbrev pub program_header : ℕ → ℕ → ℕ → ℕ → ℕ → ℕ → ProgramHeader
 program_header k o a f m g = record { kind = k; offset = o; address = a; file_size = f; memory_size = m; flags = g }
 
+-- the two program headers of a plain file with n bytes of code
 abbrev pub text_header : ℕ → ProgramHeader
 text_header n = program_header 1 0x1000 0x08049000 n n 5
 

@@ -1,11 +1,10 @@
 -- What the definition of an image says of the written files, by computation.
-use Rattle.std.proofs.Common.{◌≡◌, ℕ, true, false, [], Some, None, Ok, Err, refl}
-use Rattle.elf_image.specs.declared.refusal.Room.{Room}
-use Rattle.elf_image.specs.declared.refusal.Room.TheVariants.{Source, Any}
+use Rattle.std.proofs.Common.{refl}
 use Rattle.elf_image.specs.Fields.{headers_from}
 use Rattle.elf_image.specs.Refusals.{refusal_of}
+use Rattle.elf_image.specs.Plain.{is_plain}
 use Rattle.elf_image.specs.Image.{image_of, segment_at}
-use Rattle.elf_image.specs.Rows.{EmptyFile, MagicAlone, SevenFile, WritableCode, LinkedFile, linked_file, file_with, seven_file}
+use Rattle.elf_image.specs.Rows.{EmptyFile, MagicAlone, SevenFile, WritableCode, LinkedFile, linked_file, file_with}
 
 pub empty_file : EmptyFile
 unfolding image_of refusal_of
@@ -16,8 +15,8 @@ unfolding image_of refusal_of
 magic_alone room = refl
 
 pub seven_is : SevenFile
-unfolding image_of refusal_of headers_from segment_at file_with
-seven_is = (refl, refl, refl, refl, refl, refl, refl)
+unfolding is_plain image_of refusal_of headers_from segment_at file_with
+seven_is = (refl, (refl, refl, refl, refl, refl, refl, refl))
 
 pub writable_is : WritableCode
 unfolding image_of refusal_of headers_from file_with

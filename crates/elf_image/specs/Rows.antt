@@ -1,9 +1,10 @@
 -- Files that are written out, and what the definition of an image says of each.
-use Rattle.std.specs.Prelude.{◌≡◌, ℕ, ◌+◌, ◌-◌, ◌*◌, ◌/◌, ◌%◌, Bool, true, false, List, [], ◌∷◌, ◌++◌, length, replicate, Option, Some, None, Result, Ok, Err, slice_set, IsOkAnd}
+use Rattle.std.specs.Prelude.{◌≡◌, ℕ, ◌-◌, ◌/◌, ◌%◌, true, false, List, [], ◌∷◌, ◌++◌, length, replicate, Some, None, Err, slice_set, IsOkAnd}
 use Rattle.elf_image.specs.declared.image.Image.{Image}
 use Rattle.elf_image.specs.declared.refusal.Room.{Room}
 use Rattle.elf_image.specs.declared.refusal.Room.TheVariants.{Source}
 use Rattle.elf_image.specs.declared.refusal.Refusal.TheVariants.{Short, Class, Permission, SegmentFile}
+use Rattle.elf_image.specs.Plain.{is_plain}
 use Rattle.elf_image.specs.Image.{image_of, byte_at, code_byte_at, can_write}
 
 -- the bytes of a half and of a word, lowest first
@@ -46,14 +47,14 @@ EmptyFile = (room : Room) → image_of [] room ≡ Err Short
 abbrev pub MagicAlone : Type 0
 MagicAlone = (room : Room) → image_of (0x7F ∷ 0x45 ∷ 0x4C ∷ 0x46 ∷ zeros 48) room ≡ Err Class
 
--- its code stands in a page that can be run and not written, and after that comes a page that can be written and not run
+-- the code stands in a page that can be run and not written, and after that comes a page that can be written and not run
 abbrev pub ShowsSeven : Image → Type 0
 ShowsSeven image =
     (image.entry ≡ 0x08049000) × (code_byte_at image 0x08049000 ≡ Some 0xBB) × (code_byte_at image 0x0804A000 ≡ None) × (byte_at image 0x0804A000 ≡ Some 0)
     × (can_write image 0x0804A000 ≡ true) × (can_write image 0x08049000 ≡ false) × (byte_at image 0x0804B000 ≡ None)
 
 abbrev pub SevenFile : Type 0
-SevenFile = IsOkAnd (image_of seven_file Source) ShowsSeven
+SevenFile = (is_plain seven_file ≡ true) × IsOkAnd (image_of seven_file Source) ShowsSeven
 
 -- the code's page can be written too, and then its size in the file is too great as well
 abbrev pub writable_code : List ℕ
@@ -62,7 +63,7 @@ writable_code = slice_set seven_file 76 7
 abbrev pub WritableCode : Type 0
 WritableCode = (image_of writable_code Source ≡ Err Permission) × (image_of (slice_set writable_code 69 0x20) Source ≡ Err SegmentFile)
 
--- endbr32, then reads, writes and an exit by calls of the outside, as a linker would place them
+-- endbr32, a loop that writes the first word of the command until all of it is taken, and exit with 0
 abbrev pub linked_code : List ℕ
 linked_code =
     0xF3 ∷ 0x0F ∷ 0x1E ∷ 0xFB ∷ 0x8B ∷ 0x74 ∷ 0x24 ∷ 0x04 ∷ 0x31 ∷ 0xD2 ∷ 0x80 ∷ 0x3C ∷ 0x16 ∷ 0x00 ∷ 0x74 ∷ 0x03 ∷ 0x42 ∷ 0xEB ∷ 0xF7 ∷ 0x85 ∷ 0xD2 ∷ 0x74 ∷ 0x0D ∷ 0x89 ∷ 0xF1

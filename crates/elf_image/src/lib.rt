@@ -8,10 +8,12 @@ mod laws;
 mod perm;
 mod reader;
 mod refusal;
+#[cfg(test)]
+mod tests;
 
 pub use header::ProgramHeader;
 pub use image::{Image, Segment, SegmentList};
-pub use laws::image_laws;
+pub use laws::{image_laws, worked_images};
 pub use perm::Perm;
 pub use reader::read_image;
 pub use refusal::{ImageError, Refusal, Room};

@@ -1,6 +1,6 @@
 // The reader of the plain form.
-ghost use Rattle.std.specs.Prelude.{◌≡◌, ◌+◌, ◌≤◌, true, length, take, drop, IfOk};
-ghost use Rattle.elf_image.specs.Plain.{ReadsPlain, has_plain_header, is_plain_text, is_plain_room, is_plain, text_segment, plain_image};
+ghost use Rattle.std.specs.Prelude.{◌≡◌, ◌≤◌, length, IfOk};
+ghost use Rattle.elf_image.specs.Plain.{ReadsPlain, has_plain_header, is_plain_text, is_plain_room, is_plain, plain_image};
 
 use crate::header::{half, has_magic, header_at, word};
 use crate::{Image, ImageError, Perm, ProgramHeader, Refusal, Room, Segment, SegmentList};
@@ -8,9 +8,10 @@ use bitflags::Flags;
 use std::alloc::{AllocError, Global};
 use x86_values::ByteList;
 
-#[tactic(auto, using(crate::proofs::PlainForm::plain_length))]
 /// Reads the image of a file. So far it takes the plain form alone: a file that has at least 52 bytes and the magic, and
-/// isn't plain, is `NotYet`. `room` says where the pages may lie; a plain file is accepted in either.
+/// isn't plain, is `NotYet`. `room` says where the pages may lie; a plain file is accepted in either. A refusal takes no
+/// memory.
+#[tactic(auto, using(crate::proofs::PlainForm::plain_length))]
 pub fn read_image(alloc: Global, bytes: &[u8], room: Room) -> Result<Image, ImageError>
     ensures { ReadsPlain bytes.now room result }
 {

@@ -1,6 +1,7 @@
 // Why a file is turned away.
 
 ghost use Rattle.std.specs.Prelude.{◌≡◌};
+ghost use Rattle.elf_image.specs.Names.{refusal_name};
 
 use std::alloc::AllocError;
 use std::fmt;
@@ -39,10 +40,44 @@ pub enum Refusal {
     NotYet,
 }
 
-/// The name of the cause.
+impl Refusal {
+    /// The name of the cause, which is its variant's.
+    pub fn name(&self) -> &'static str
+        ensures { result.now ≡ refusal_name self.now }
+    {
+        match self {
+            Refusal::Short => "Short",
+            Refusal::Magic => "Magic",
+            Refusal::Class => "Class",
+            Refusal::Order => "Order",
+            Refusal::Version => "Version",
+            Refusal::Kind => "Kind",
+            Refusal::Machine => "Machine",
+            Refusal::HeaderSize => "HeaderSize",
+            Refusal::HeaderTable => "HeaderTable",
+            Refusal::Dynamic => "Dynamic",
+            Refusal::SegmentFile => "SegmentFile",
+            Refusal::SegmentSize => "SegmentSize",
+            Refusal::SegmentAlign => "SegmentAlign",
+            Refusal::Permission => "Permission",
+            Refusal::Range => "Range",
+            Refusal::SharedPage => "SharedPage",
+            Refusal::Entry => "Entry",
+            Refusal::CodeSpan => "CodeSpan",
+            Refusal::ImageSize => "ImageSize",
+            Refusal::NotYet => "NotYet",
+        }
+    }
+}
+
 impl fmt::Display for Refusal {
+    ghost use Rattle.std.specs.Prelude.{Some};
+    ghost use Rattle.elf_image.specs.Names.{refusal_name};
+
+    ghost output = { λ refusal. Some (refusal_name refusal) };
+
     fn fmt<W: fmt::Write>(&self, f: &mut fmt::Formatter<W>) -> fmt::Result {
-        write!(f, "{self:?}")
+        f.write_str(self.name())
     }
 }
 

@@ -1,5 +1,5 @@
 -- When the run of a written file does what the run of the old file did.
-use Rattle.std.specs.Prelude.{◌≡◌, ℕ, List}
+use Rattle.std.specs.Prelude.{ℕ, List}
 use Rattle.traces.specs.Plain.{AgreePlainly}
 use Rattle.elf_image.specs.declared.image.Image.{Image}
 use Rattle.elf_image.specs.Plain.{plain_image}

@@ -2,9 +2,10 @@
 use Rattle.std.specs.Prelude.{◌≡◌, ℕ, ◌<◌, ◌≤◌, true, false, List, length, take, drop, unwrap_or, Result, Ok, Err}
 use Rattle.elf_image.specs.declared.refusal.Refusal.{Refusal}
 use Rattle.elf_image.specs.declared.refusal.Refusal.TheVariants.{Short, Magic, NotYet}
-use Rattle.elf_image.specs.declared.refusal.Room.TheVariants.{Any}
+use Rattle.elf_image.specs.declared.refusal.Room.TheVariants.{Source, Any}
 use Rattle.elf_image.specs.Fields.{has_magic}
 use Rattle.elf_image.specs.Image.{image_of}
+use Rattle.elf_image.specs.Plain.{plain_image}
 use Rattle.rewrite_core.specs.declared.rewriter.Rewritten.{Rewritten}
 use Rattle.rewrite_core.specs.declared.rewriter.RewriteError.{RewriteError}
 use Rattle.rewrite_core.specs.declared.rewriter.RewriteError.TheVariants.{Refused, Memory}
@@ -31,9 +32,16 @@ IsRefused file Magic = (52 ≤ length file) × (has_magic file ≡ false)
 IsRefused file NotYet = (52 ≤ length file) × (has_magic file ≡ true) × (IsRewritable file → ⊥)
 IsRefused file _ = ⊥
 
--- A file that is rewritten gives the stated file, which is accepted in the wide room as the stated image; each refusal is
--- the first that holds.
+-- What a file is rewritten to: the stated file, which is accepted in the wide room as the stated image. The old file is
+-- accepted in the room of files that are rewritten.
+pub record IsWritten (file out : List ℕ) : Type 0 where
+  pub rewritable : IsRewritable file
+  pub is : out ≡ rewritten file
+  pub read : image_of file Source ≡ Ok (plain_image file)
+  pub accepted : image_of out Any ≡ Ok (new_image (text_of file) (code_for file))
+
+-- each refusal is the first that holds
 abbrev pub Rewrites : List ℕ → Result Rewritten RewriteError → Type 0
-Rewrites file (Ok r) = IsRewritable file × (r.file ≡ rewritten file) × (image_of r.file Any ≡ Ok (new_image (text_of file) (code_for file)))
+Rewrites file (Ok r) = IsWritten file r.file
 Rewrites file (Err (Refused r)) = IsRefused file r
 Rewrites file (Err Memory) = Unit {0}

@@ -1,5 +1,5 @@
 -- What a host in memory tells.
-use Rattle.std.specs.Prelude.{◌≡◌, ℕ, ◌+◌, ◌==◌, ◌||◌, min, Bool, false, List, [], map, Option, Result, Ok, Err}
+use Rattle.std.specs.Prelude.{◌≡◌, ◌≤◌, ℕ, ◌+◌, ◌==◌, ◌||◌, min, Bool, false, List, [], map, Option, Result, Ok, Err}
 use Rattle.std.specs.List.{list_any}
 use Rattle.std.specs.Ordering.{nat_cmp}
 use Rattle.std.specs.Bool.{nat_eq}
@@ -29,7 +29,7 @@ with_failing a number = record a { failing = λ n. a.failing n || (number == n) 
 
 -- a count of faults rises by one at `Failed`, up to its last value, and else stays
 abbrev pub CountsFault : {T : Type 0} → ℕ → ℕ → Result T HostFault → Type 0
-CountsFault before now (Err Failed) = now ≡ min (before + 1) last_count
+CountsFault before now (Err Failed) = (before ≤ last_count) × (now ≡ min (before + 1) last_count)
 CountsFault before now (Err Memory) = now ≡ before
 CountsFault before now (Ok _) = now ≡ before
 

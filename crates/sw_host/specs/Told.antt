@@ -40,6 +40,6 @@ Rose before now = min (before + 1) last_count ≤ now
 
 -- a count of faults never falls, and `Failed` comes only where it rose
 abbrev pub HasCause : {T : Type 0} → ℕ → ℕ → Result T HostFault → Type 0
-HasCause before now (Err Failed) = Rose before now
+HasCause before now (Err Failed) = (before ≤ now) × Rose before now
 HasCause before now (Err Memory) = before ≤ now
 HasCause before now (Ok _) = before ≤ now

@@ -1,5 +1,5 @@
 //! The outside, as the program sees it: files and lines; and a host in memory.
-#![tactic(auto, using(crate::proofs::MemoryLemmas::telling), unfolding(crate::specs::Memory::told_by, crate::specs::Memory::nothing_told, crate::specs::Calls::called, crate::specs::Calls::loaded, crate::specs::Calls::with_file, crate::specs::Calls::with_line))]
+#![tactic(auto)]
 
 mod host;
 mod laws;

@@ -5,7 +5,8 @@ use std::alloc::AllocError;
 use std::marker::Model;
 use x86_values::ByteList;
 
-/// A list of lines, each the bytes of its text. It is made from a `Vec` and gives it back, both without taking memory.
+/// A list of lines, each the bytes of its text. It is made from a `Vec` and gives it back, both
+/// without taking memory.
 #[derive(Debug, Drop)]
 pub struct LineList {
     lines: Vec<ByteList>,

@@ -1,10 +1,12 @@
+#![tactic(auto, using(crate::proofs::MemoryLemmas::telling), unfolding(crate::specs::Memory::told_by, crate::specs::Memory::nothing_told, crate::specs::Memory::with_failing, crate::specs::Calls::called, crate::specs::Calls::loaded, crate::specs::Calls::with_file, crate::specs::Calls::with_line))]
 // A host in memory. It tells all its meanings.
-ghost use Rattle.std.specs.Prelude.{◌≡◌, ℕ, ◌+◌, ◌-◌, ◌^◌, min, take, Some, None, OnOk, OnErr};
+ghost use Rattle.std.specs.Prelude.{◌≡◌, ◌≤◌, ℕ, ◌+◌, ◌-◌, ◌^◌, min, take, Some, None, OnOk, OnErr};
 ghost use Rattle.std.specs.Option.{option_copied};
 ghost use Rattle.std.specs.FinMap.{get, insert};
 ghost use Rattle.sw_host.specs.Told.{last_count};
 ghost use Rattle.sw_host.specs.Calls.{with_file, Loads, Stores, Lines};
-ghost use Rattle.sw_host.specs.Memory.{told_by, faults_of, nothing_told, with_failing, CountsFault, files_of, find_file, fails_at};
+ghost use Rattle.sw_host.specs.Memory.{told_by, faults_of, nothing_told, with_failing, CountsFault};
+ghost use Rattle.sw_host.specs.Memory.{files_of, find_file, fails_at};
 
 use crate::{Host, HostFault, LineList};
 use std::alloc::{AllocError, Global};
@@ -70,7 +72,8 @@ fn front(bytes: &[u8], limit: usize) -> &[u8]
 
 // One more, up to the last number.
 fn count(number: &mut u64)
-    ensures { number.new ≡ min (number.old + 1) last_count }
+    ensures small { number.old ≤ last_count }
+    ensures counted { number.new ≡ min (number.old + 1) last_count }
 {
     if *number < u64::MAX {
         *number += 1;
@@ -102,7 +105,7 @@ impl MemoryHost {
         put_file(self.alloc, &mut self.files, name.as_bytes(), bytes)
     }
 
-    /// The call of that number is to fail, the first call having number 1.
+    /// The load, store or line of that number is to fail; all calls are numbered from 1 together.
     pub fn fail_call(&mut self, number: u64) -> Result<(), AllocError>
         ensures ok { OnOk result (told_by self.new ≡ with_failing (told_by self.old) number) }
         ensures err { OnErr result (told_by self.new ≡ told_by self.old) }
@@ -119,7 +122,7 @@ impl MemoryHost {
         find(&self.files, name.as_bytes())
     }
 
-    /// The lines that were said.
+    /// The lines that were said, the first of them first.
     pub fn lines(&self) -> &LineList
         ensures { result.now ≡ (told_by self.now).lines }
     {
@@ -138,6 +141,7 @@ impl MemoryHost {
     // A fault that is counted.
     fn fail(&mut self) -> HostFault
         ensures failed { result ≡ HostFault.Failed }
+        ensures small { self.old.faults ≤ last_count }
         ensures counted { self.new ≡ record self.old { faults = min (self.old.faults + 1) last_count } }
     {
         count(&mut self.faults);

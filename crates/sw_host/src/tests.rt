@@ -1,4 +1,4 @@
-// What no clause says: that the calls succeed where memory is left, and which values a reader of the clauses expects.
+// What no clause says: that the calls succeed where memory is left, and the values that are meant.
 use crate::{Host, HostFault, MemoryHost};
 use std::alloc::Global;
 use std::test::Fail;

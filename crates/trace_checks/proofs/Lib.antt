@@ -2,3 +2,4 @@ pub mod Turns
 pub mod Agreement
 pub mod Ends
 pub mod Weight
+pub mod Alternate

@@ -1,7 +1,7 @@
 -- Small runs by turns.
 use Rattle.std.proofs.Common.{◌≡◌, ◌<◌, ◌≤◌, ℕ, zero, suc, List, [], ◌∷◌, ◌++◌, length, Option, Some, None, refl, sym, ap, ◌∙◌, arith, inl, inr, ⊎_elim, length-append}
 use Rattle.traces.specs.Trace.{Label, Turn, Code, End, Exited, Unspecified, Stopped, Behaviour, Grows, run, seen, events, turns}
-use Rattle.traces.specs.Turns.{within_turns, ShowsByTurns, SameByTurns, SameWithin, Moment, Reached}
+use Rattle.traces.specs.Turns.{within_turns, ShowsByTurns, SameByTurns, SameWithin, Moment, Reached, TraceAt}
 use Rattle.traces.proofs.Runs.{run_grows}
 use Rattle.traces.proofs.Turns.{shows_once}
 use Rattle.trace_checks.specs.Played.{play, played, one, two}
@@ -49,13 +49,20 @@ early [] report h e f = cc
 early (x ∷ []) report h e f = cc
 early (x ∷ y ∷ front) report h e f = absurd (omega (arith, h, ap length e, length-append front report))
 
+-- what is seen of one within n turns has one trace
+same_labels : (R : Behaviour) → Grows R → (n : ℕ) (ls ls' : List Label) (o o' : Option End) → ShowsByTurns R n (seen ls o) → ShowsByTurns R n (seen ls' o') → ls ≡ ls'
+same_labels R g n ls ls' o o' u v = ap (λ s. s.trace) (shows_once R g n (seen ls o) (seen ls' o') u v)
+
+-- no trace of the unit is where the report would have to be
+not_at : (c r : List Label) → c ≡ Turn 4 ∷ one ∷ [] → r ≡ Turn 4 ∷ one ∷ Turn 5 ∷ [] → TraceAt 1 5 c r → ⊥
+not_at c r h g f = ⊎_elim (λ e. let q = sym g ∙ e ∙ h in cc) (λ k. early k.front k.report k.shown (sym h ∙ k.cut) (sym g ∙ k.stop)) f
+
 pub refuses_early_report : RefusesEarlyReport
 unfolding run
 refuses_early_report p =
     let g = p.guard 2 Code 5 refl in
     let s : ShowsByTurns (played ((Turn 4 ∷ []) ∷ (one ∷ []) ∷ (Turn 5 ∷ []) ∷ []) (Stopped 5)) 3 (seen (Turn 4 ∷ one ∷ Turn 5 ∷ []) (Some (Stopped 5))) = record { steps = 3; past = inl (λ z. cc); shown = refl } in
-    let e = ap (λ x. x.trace) (shows_once _ (grows _ _) 3 _ _ s g.shows) in
-    ⊎_elim (λ h. let q = e ∙ h in cc) (λ k. early k.front k.report k.shown k.cut (e ∙ k.stop)) g.fits
+    not_at _ _ refl (same_labels _ (grows _ _) 3 _ _ _ _ g.shows s) g.fits
 
 pub allows_split_events : AllowsSplitEvents
 unfolding run

@@ -1,8 +1,9 @@
 -- What the relations by turns refuse and let pass.
 use Rattle.std.specs.Prelude.{[], ◌∷◌}
-use Rattle.traces.specs.Trace.{Turn, Code, Exited, Unspecified, Guard, Stopped}
+use Rattle.traces.specs.TurnBounds.{FollowsByTurns}
+use Rattle.traces.specs.Trace.{Turn, Code, Exited, Unspecified, Guard, Stopped, run}
 use Rattle.traces.specs.Turns.{SameByTurns, CutByTurns, Paced}
-use Rattle.trace_checks.specs.Played.{played, one, two}
+use Rattle.trace_checks.specs.Played.{played, repeat, alternate, one, two}
 
 -- by turns, an event that moves to the next turn is refused
 abbrev pub RefusesMovedEvent : Type 0
@@ -31,3 +32,7 @@ AllowsSplitEvents = SameByTurns (played ((Turn 1 ∷ one ∷ two ∷ []) ∷ [])
 -- a weight bounds all turns so far together: a turn of three steps passes after one of one step, with weight 2
 abbrev pub AllowsLongTurn : Type 0
 AllowsLongTurn = Paced 2 (played ((Turn 1 ∷ []) ∷ (Turn 2 ∷ []) ∷ [] ∷ [] ∷ []) (Exited 0))
+
+-- a step that shows nothing may be left out, where only turns are counted
+abbrev pub AllowsStepLeftOut : Type 0
+AllowsStepLeftOut = FollowsByTurns 1 0 (run (alternate (Turn 1 ∷ one ∷ [])) 1) (run (repeat (Turn 1 ∷ one ∷ [])) 0)

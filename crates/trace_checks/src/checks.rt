@@ -1,7 +1,12 @@
+ghost use Rattle.std.specs.Prelude.{ℕ};
+ghost use Rattle.traces.specs.Trace.{Exited, Grows};
+ghost use Rattle.trace_checks.specs.Played.{counted};
 ghost use Rattle.trace_checks.specs.AgreementChecks.{AllowsAnythingAfterUnspecified, AllowsOutsideAtGuard, AllowsSlowExit, RefusesDroppedBeforeUnspecified, RefusesDroppedEvent, RefusesEarlyEnd, RefusesEndlessRun, RefusesExitAtGuard, RefusesExtraEvent, RefusesOtherEvent, RefusesOtherStatus, RefusesSlowExit, RefusesStepLeftOut};
 ghost use Rattle.trace_checks.specs.EndingChecks.{CountingEnds, ReportingEnds};
-ghost use Rattle.trace_checks.specs.TurnChecks.{AllowsLongTurn, AllowsSplitEvents, RefusesEarlyReport, RefusesLateGuard, RefusesLostMoment, RefusesMovedEvent, RefusesOtherAddress};
+ghost use Rattle.trace_checks.specs.TurnChecks.{AllowsLongTurn, AllowsSplitEvents, AllowsStepLeftOut, RefusesEarlyReport, RefusesLateGuard, RefusesLostMoment, RefusesMovedEvent, RefusesOtherAddress};
 ghost use Rattle.trace_checks.specs.WeightChecks.{WalkPaced};
+
+use traces::machine_laws;
 
 /// Does nothing: its clauses say what agreement within `4096 * n + 256` steps refuses and lets pass.
 pub fn agreement_checks()
@@ -29,6 +34,7 @@ pub fn turn_checks()
     ensures refuses_early_report { RefusesEarlyReport }
     ensures allows_split_events { AllowsSplitEvents }
     ensures allows_long_turn { AllowsLongTurn }
+    ensures allows_step_left_out { AllowsStepLeftOut }
 {}
 
 /// Does nothing: its clauses say that reports and counts are endings.
@@ -36,6 +42,13 @@ pub fn ending_checks()
     ensures reporting_ends { ReportingEnds }
     ensures counting_ends { CountingEnds }
 {}
+
+/// Calls the laws of every machine, at states that are numbers: its clause is one of them, of the machine that counts down.
+pub fn count_grows()
+    ensures grows { (n : ℕ) → Grows (counted n (Exited 0)) }
+{
+    machine_laws::<u64>();
+}
 
 /// Does nothing: its clause says that a turn may go over several blocks.
 pub fn weight_checks()

@@ -3,4 +3,4 @@
 
 mod checks;
 
-pub use checks::{agreement_checks, ending_checks, turn_checks, weight_checks};
+pub use checks::{agreement_checks, count_grows, ending_checks, turn_checks, weight_checks};

@@ -3,6 +3,7 @@ use Rattle.std.specs.Prelude.{◌≡◌, ℕ, ◌≤◌, Some}
 use Rattle.traces.specs.Trace.{End, Behaviour, Move, Grows, EndsAt, run}
 use Rattle.traces.specs.Turns.{SameByTurns, CutByTurns, Paced, Ticks, OneEvent, StartsNoLater}
 use Rattle.traces.specs.Agree.{Covers, Follows, Agrees, Agree}
+use Rattle.traces.specs.TurnBounds.{outsides, outsided}
 use Rattle.traces.specs.Machines.{turned, PacedMove, OneEventMove, Unturned}
 use Rattle.traces.specs.Simulation.{Simulates, Fits, SameEvents, Paired}
 use Rattle.traces.specs.Meeting.{SameFit, CutFit, Meets}
@@ -35,6 +36,10 @@ PacedByMoves S = (next : S → Move S) (w : ℕ) (left : S → ℕ) → ((s : S)
 -- it shows its events one by one where each move shows at most one
 abbrev pub OneEventByMoves : Type 0 → Type 0
 OneEventByMoves S = (next : S → Move S) → ((s : S) → OneEventMove next (next s)) → (s : S) → OneEvent (run next s)
+
+-- the machine whose ends are made places outside has the run whose ends are
+abbrev pub OutsidedRun : Type 0 → Type 0
+OutsidedRun S = (next : S → Move S) (s : S) (n : ℕ) → run (outsided next) s n ≡ outsides (run next s) n
 
 -- forward simulation with a bound: where from each related pair of states the target simulates the source's move, a step by at
 -- most K steps and an end by b more, its run follows the source's within K * n + b steps

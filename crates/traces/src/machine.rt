@@ -1,4 +1,4 @@
-ghost use Rattle.traces.specs.MachineLaws.{AgreesWithRun, CutByMeeting, EndComes, EndsOnce, ForwardSimulation, OneEventByMoves, PacedByMoves, RunGrows, SameByMeeting, TurnedTicks};
+ghost use Rattle.traces.specs.MachineLaws.{AgreesWithRun, CutByMeeting, EndComes, EndsOnce, ForwardSimulation, OneEventByMoves, OutsidedRun, PacedByMoves, RunGrows, SameByMeeting, TurnedTicks};
 
 /// Does nothing: its clauses are the laws of every machine, whatever its states are.
 pub fn machine_laws<S>()
@@ -9,6 +9,7 @@ pub fn machine_laws<S>()
     ensures turned_ticks { TurnedTicks S }
     ensures paced_by_moves { PacedByMoves S }
     ensures one_event_by_moves { OneEventByMoves S }
+    ensures outsided_run { OutsidedRun S }
 {}
 
 /// Does nothing: its clauses are the laws of two machines, by which relating their states relates their runs; `P` is the

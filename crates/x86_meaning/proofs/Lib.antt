@@ -1,4 +1,5 @@
 pub mod Spellings
+pub mod States
 pub mod Memories
 pub mod Moves
 pub mod Rows

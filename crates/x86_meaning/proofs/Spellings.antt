@@ -1,8 +1,11 @@
 -- The front that is computed is the front that spells.
-use Rattle.std.proofs.Common.{◌≡◌, ℕ, ◌+◌, ◌/◌, ◌%◌, ◌^◌, ◌<◌, ◌≤◌, ◌==◌, Bool, true, false, cond, ltb, List, [], ◌∷◌, ◌++◌, length, take, drop, Option, Some, None, refl, sym, ◌∙◌, ap, subst, arith, ⊎_elim, All, inl, inr}
+use Rattle.std.proofs.Common.{◌≡◌, ℕ, ◌+◌, suc, zero, ◌/◌, ◌%◌, ◌^◌, ◌<◌, ◌≤◌, ◌==◌, Bool, true, false, cond, ltb, List, [], ◌∷◌, ◌++◌, length, take, drop, Option, Some, None, refl, sym, ◌∙◌, ap, subst, arith, ⊎_elim, All, inl, inr}
 use Rattle.std.proofs.lemmas.List.{length-take-le, take-append-drop, take_at}
 use Rattle.std.proofs.lemmas.List.Elements.{All-tail}
 use Rattle.std.proofs.lemmas.Bool.{eqb-true, cond_both}
+use Rattle.elf_image.specs.declared.image.Image.{Image}
+use Rattle.elf_image.specs.Image.{code_byte_at, then_code, code_bytes}
+use Rattle.x86_meaning.specs.Run.{code_of}
 use Rattle.x86_meaning.specs.declared.instr.Reg.{Reg}
 use Rattle.x86_meaning.specs.declared.instr.Reg.TheVariants.{Eax, Ecx, Edx, Ebx, Esp, Ebp, Esi, Edi}
 use Rattle.x86_meaning.specs.declared.instr.Instr.{Instr}
@@ -195,3 +198,18 @@ fifteen (b ∷ c ∷ []) = refl
 fifteen (b ∷ c ∷ d ∷ []) = refl
 fifteen (b ∷ c ∷ d ∷ e ∷ []) = refl
 fifteen (b ∷ c ∷ d ∷ e ∷ f ∷ rest) = refl
+
+-- the first of more bytes are those of fewer
+one_byte : (o : Option ℕ) (k : ℕ) (xs ys : List ℕ) → take k xs ≡ ys → take (suc k) (then_code o xs) ≡ then_code o ys
+one_byte None k xs ys h = refl
+one_byte (Some b) k xs ys h = ap (λ x. b ∷ x) h
+
+fewer_bytes : (image : Image) (k n a : ℕ) → k ≤ n → take k (code_bytes image a n) ≡ code_bytes image a k
+unfolding code_bytes
+fewer_bytes image zero n a h = refl
+fewer_bytes image (suc k) zero a h = absurd (omega arith)
+fewer_bytes image (suc k) (suc n) a h = one_byte (code_byte_at image a) k (code_bytes image (a + 1) n) (code_bytes image (a + 1) k) (fewer_bytes image k n (a + 1) (omega arith))
+
+pub any_front : (image : Image) (a n : ℕ) → 15 ≤ n → front (code_bytes image a n) ≡ code_of image a
+unfolding code_of
+any_front image a n h = sym (fifteen (code_bytes image a n)) ∙ ap front (fewer_bytes image 15 n a h)

@@ -3,10 +3,12 @@ use Rattle.std.specs.Prelude.{◌≡◌, ◌↔◌, ℕ, ◌<◌, ◌≤◌, Lis
 use Rattle.traces.specs.Trace.{GuardKind, Guard, Grows}
 use Rattle.traces.specs.Turns.{Paced, Ticks}
 use Rattle.traces.specs.Plain.{NeverStops}
+use Rattle.elf_image.specs.declared.image.Image.{Image}
+use Rattle.elf_image.specs.Image.{code_bytes}
 use Rattle.x86_meaning.specs.declared.instr.Instr.{Instr}
 use Rattle.x86_meaning.specs.Spells.{Spells, FrontSpells, front}
 use Rattle.x86_meaning.specs.Step.{State, Code}
-use Rattle.x86_meaning.specs.Run.{run_from}
+use Rattle.x86_meaning.specs.Run.{code_of, run_from}
 
 -- the computed instruction is the one that a front spells, with the length of that front
 abbrev pub FrontIsSpelling : Type 0
@@ -27,6 +29,10 @@ NoneIsNoSpelling = (bytes : List ℕ) → front bytes ≡ None → (i : Instr) (
 -- what stands after 15 bytes makes no difference
 abbrev pub FifteenAreEnough : Type 0
 FifteenAreEnough = (bytes : List ℕ) → front (take 15 bytes) ≡ front bytes
+
+-- so an instruction stands where any longer front of the executable bytes shows it
+abbrev pub CodeIsAnyFront : Type 0
+CodeIsAnyFront = (image : Image) (a n : ℕ) → 15 ≤ n → front (code_bytes image a n) ≡ code_of image a
 
 -- more steps show the same and more, and an end stays
 abbrev pub RunsGrow : Type 0

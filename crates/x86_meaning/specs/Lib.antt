@@ -5,4 +5,5 @@ pub mod Step
 pub mod Run
 pub mod Laws
 pub mod MemoryLaws
+pub mod StateLaws
 pub mod Rows

@@ -74,7 +74,7 @@ memory_of image a = option_map (place_in a) (segment_at image a)
 abbrev pub stack_start : ℕ → ℕ
 stack_start esp0 = 4096 * (esp0 / 4096) - 8388608
 
--- the stack region beside other memory: the given bytes stand from esp on, and those below are unspecified
+-- the stack region beside other memory: the given bytes stand from esp on, and those below are unspecified (own)
 unfoldable pub with_stack : ℕ → List ℕ → Memory → Memory
 with_stack esp0 bytes m a =
     cond (leb (stack_start esp0) a && ltb a (esp0 + length bytes))

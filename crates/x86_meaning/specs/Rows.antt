@@ -6,7 +6,6 @@ use Rattle.x86_values.specs.declared.answer.Answer.{Answer}
 use Rattle.x86_values.specs.declared.answer.Answer.TheVariants.{Take, Fail}
 use Rattle.traces.specs.Trace.{Event, Read, Write, End, Exited, Outside, OtherCall, Unspecified, Behaviour, events, Move, Stand, Go, Halt}
 use Rattle.elf_image.specs.declared.image.Image.{Image}
-use Rattle.x86_meaning.specs.SystemCall.{error, EBADF, EFAULT}
 use Rattle.x86_meaning.specs.Step.{State, Code, next}
 use Rattle.x86_meaning.specs.Run.{code_of, start_of, run_of, IsStart}
 
@@ -102,7 +101,7 @@ writes_stack = 0xB8 ∷ 4 ∷ 0 ∷ 0 ∷ 0 ∷ 0xBB ∷ 2 ∷ 0 ∷ 0 ∷ 0 ∷
 abbrev pub WritesStack : Type 0
 WritesStack = Shows (run_with writes_stack [] []) 5 (Write 2 (1 ∷ 0 ∷ 0 ∷ 0 ∷ 0x98 ∷ 0xFF ∷ 0xFE ∷ 0xBF ∷ 0 ∷ 0 ∷ 0 ∷ 0 ∷ 0 ∷ 0 ∷ 0 ∷ 0 ∷ 0 ∷ 0 ∷ 0 ∷ 0 ∷ 0 ∷ 0 ∷ 0 ∷ 0 ∷ 0x61 ∷ 0 ∷ []) 26 ∷ []) (Some Outside)
 
--- a byte below esp is written
+-- a byte below esp would be written
 abbrev pub writes_below : List ℕ
 writes_below = 0xB8 ∷ 4 ∷ 0 ∷ 0 ∷ 0 ∷ 0xBB ∷ 1 ∷ 0 ∷ 0 ∷ 0 ∷ 0xB9 ∷ 0x7F ∷ 0xFF ∷ 0xFE ∷ 0xBF ∷ 0xBA ∷ 2 ∷ 0 ∷ 0 ∷ 0 ∷ 0xCD ∷ 0x80 ∷ 0xF4 ∷ []
 
@@ -136,25 +135,25 @@ abbrev pub reads_from_one : List ℕ
 reads_from_one = 0xB8 ∷ 3 ∷ 0 ∷ 0 ∷ 0 ∷ 0xBB ∷ 1 ∷ 0 ∷ 0 ∷ 0 ∷ 0xB9 ∷ 0 ∷ 0xA0 ∷ 4 ∷ 8 ∷ 0xBA ∷ 1 ∷ 0 ∷ 0 ∷ 0 ∷ 0xCD ∷ 0x80 ∷ 0xF4 ∷ []
 
 abbrev pub ReadsFromOne : Type 0
-ReadsFromOne = Shows (run_with reads_from_one (0x41 ∷ []) (Take 1 ∷ [])) 5 (Read 1 [] (error EBADF) ∷ []) (Some Outside)
+ReadsFromOne = Shows (run_with reads_from_one (0x41 ∷ []) (Take 1 ∷ [])) 5 (Read 1 [] (2 ^ 32 - 9) ∷ []) (Some Outside)
 
 -- a read into the code, which can't be written
 abbrev pub reads_into_code : List ℕ
 reads_into_code = 0xB8 ∷ 3 ∷ 0 ∷ 0 ∷ 0 ∷ 0xBB ∷ 0 ∷ 0 ∷ 0 ∷ 0 ∷ 0xB9 ∷ 0 ∷ 0x90 ∷ 4 ∷ 8 ∷ 0xBA ∷ 1 ∷ 0 ∷ 0 ∷ 0 ∷ 0xCD ∷ 0x80 ∷ 0xF4 ∷ []
 
 abbrev pub ReadsIntoCode : Type 0
-ReadsIntoCode = Shows (run_with reads_into_code (0x41 ∷ []) []) 5 (Read 0 [] (error EFAULT) ∷ []) (Some Outside)
+ReadsIntoCode = Shows (run_with reads_into_code (0x41 ∷ []) []) 5 (Read 0 [] (2 ^ 32 - 14) ∷ []) (Some Outside)
 
 -- a buffer that passes the end of the second page
 abbrev pub reads_past_page : List ℕ
 reads_past_page = 0xB8 ∷ 3 ∷ 0 ∷ 0 ∷ 0 ∷ 0xBB ∷ 0 ∷ 0 ∷ 0 ∷ 0 ∷ 0xB9 ∷ 0xFF ∷ 0xAF ∷ 4 ∷ 8 ∷ 0xBA ∷ 2 ∷ 0 ∷ 0 ∷ 0 ∷ 0xCD ∷ 0x80 ∷ 0xF4 ∷ []
 
 abbrev pub ReadsPastPage : Type 0
-ReadsPastPage = Shows (run_with reads_past_page (0x41 ∷ []) []) 5 (Read 0 [] (error EFAULT) ∷ []) (Some Outside)
+ReadsPastPage = Shows (run_with reads_past_page (0x41 ∷ []) []) 5 (Read 0 [] (2 ^ 32 - 14) ∷ []) (Some Outside)
 
--- a read of no bytes, wherever its buffer is
+-- a read of no bytes, wherever its buffer is, and then a write: the read takes no answer
 abbrev pub reads_none : List ℕ
-reads_none = 0xB8 ∷ 3 ∷ 0 ∷ 0 ∷ 0 ∷ 0xBB ∷ 0 ∷ 0 ∷ 0 ∷ 0 ∷ 0xB9 ∷ 0 ∷ 0 ∷ 0 ∷ 0 ∷ 0xBA ∷ 0 ∷ 0 ∷ 0 ∷ 0 ∷ 0xCD ∷ 0x80 ∷ 0xF4 ∷ []
+reads_none = 0xB8 ∷ 3 ∷ 0 ∷ 0 ∷ 0 ∷ 0xBB ∷ 0 ∷ 0 ∷ 0 ∷ 0 ∷ 0xB9 ∷ 0 ∷ 0 ∷ 0 ∷ 0 ∷ 0xBA ∷ 0 ∷ 0 ∷ 0 ∷ 0 ∷ 0xCD ∷ 0x80 ∷ 0xB8 ∷ 4 ∷ 0 ∷ 0 ∷ 0 ∷ 0xBB ∷ 1 ∷ 0 ∷ 0 ∷ 0 ∷ 0xB9 ∷ 0 ∷ 0xA0 ∷ 4 ∷ 8 ∷ 0xBA ∷ 1 ∷ 0 ∷ 0 ∷ 0 ∷ 0xCD ∷ 0x80 ∷ 0xF4 ∷ []
 
 abbrev pub ReadsNone : Type 0
-ReadsNone = Shows (run_with reads_none (0x41 ∷ []) (Fail 5 ∷ [])) 5 (Read 0 [] 0 ∷ []) (Some Outside)
+ReadsNone = Shows (run_with reads_none (0x41 ∷ []) (Fail 5 ∷ [])) 10 (Read 0 [] 0 ∷ Write 1 [] (2 ^ 32 - 5) ∷ []) (Some Outside)

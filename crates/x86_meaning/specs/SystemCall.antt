@@ -39,7 +39,7 @@ EBADF = 9
 abbrev pub EFAULT : ℕ
 EFAULT = 14
 
--- the next answer, and those after it; where none is left it takes as much as one call can
+-- the next answer, and those after it; where none is left it takes as much as one call can (own)
 abbrev pub next_answer : List Answer → Answer
 next_answer [] = Take cap
 next_answer (x ∷ xs) = x
@@ -67,7 +67,7 @@ abbrev pub asks_known : Option (List ℕ) → Plan (List ℕ)
 asks_known None = Stops
 asks_known (Some bytes) = Asks bytes
 
--- a write offers these bytes; where one of them is unspecified the run stops
+-- a write offers these bytes; where one of them is unspecified the run stops (own)
 abbrev pub write_plan : Memory → ℕ → ℕ → ℕ → Plan (List ℕ)
 write_plan m fd at count =
     cond (fd == 1 || fd == 2) (cond (count == 0) (Refused 0) (cond (passes false m at count) (asks_known (known_all m at (min count cap))) (Refused (error EFAULT)))) (Refused (error EBADF))
@@ -102,16 +102,17 @@ read_call fd at count m left = reads (read_plan m fd at count) fd at m left
 unfoldable pub write_call : ℕ → ℕ → ℕ → Memory → Environment → Called
 write_call fd at count m left = writes (write_plan m fd at count) fd m left
 
--- the status is the lowest byte of ebx
+-- the status is the lowest byte of ebx; the run stops where it is unspecified (own)
 abbrev pub exit_call : Option ℕ → Called
 exit_call None = Ends Unspecified
 exit_call (Some status) = Ends (Exited status)
 
--- the descriptor, the address and the count have to be known
+-- the descriptor, the address and the count have to be known (own)
 abbrev pub transfer : (ℕ → ℕ → ℕ → Memory → Environment → Called) → Option ℕ → Option ℕ → Option ℕ → Memory → Environment → Called
 transfer call (Some fd) (Some at) (Some count) m left = call fd at count m left
 transfer call _ _ _ m left = Ends Unspecified
 
+-- so has the number; a number other than these three ends the run (own)
 abbrev pub call_by : Option ℕ → Request → Memory → Environment → Called
 call_by None q m left = Ends Unspecified
 call_by (Some n) q m left =

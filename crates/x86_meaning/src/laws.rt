@@ -1,7 +1,8 @@
 // The laws of the definitions. Each function does nothing, and its clauses are the laws.
 ghost use Rattle.x86_meaning.specs.Rows.{ExitsLow, ExitsSeven, Loops, MakesOtherCall, ReadStands, Reads, ReadsAndWrites, ReadsFromOne, ReadsIntoCode, ReadsNone, ReadsNothing, ReadsPastPage, StackIsStart, StandsOutside, WritesBelow, WritesByAnswer, WritesStack, WritesText};
 ghost use Rattle.x86_meaning.specs.MemoryLaws.{CanApart, CanByKinds, CanInSame, ForgetAbove, ForgetBelow, ForgetKeepsKinds, ForgetKeepsSame, ForgetOffStack, ForgetThenForget, KnownApart, KnownInSame, PutAllAbove, PutAllBelow, PutAllIsKnown, PutAllKeepsKinds, PutAllKeepsSame, PutAllThere, PutAllWithin, PutElsewhere, PutKeepsSame, PutThere, SameInApart, StackKeepsSame};
-ghost use Rattle.x86_meaning.specs.Laws.{FifteenAreEnough, FrontIsSpelling, NoSpellingBeginsAnother, NoneIsNoSpelling, RunsArePaced, RunsGrow, RunsHaveNoGuard, RunsNeverStop, RunsTick, SpellingIsShort};
+ghost use Rattle.x86_meaning.specs.StateLaws.{CallApart, StartIsForgotten, StepForgets, StepKeepsKinds};
+ghost use Rattle.x86_meaning.specs.Laws.{CodeIsAnyFront, FifteenAreEnough, FrontIsSpelling, NoSpellingBeginsAnother, NoneIsNoSpelling, RunsArePaced, RunsGrow, RunsHaveNoGuard, RunsNeverStop, RunsTick, SpellingIsShort};
 
 /// Does nothing: its clauses say that the computed front is the relation of spellings, and that a list of bytes has at
 /// most one front that spells an instruction.
@@ -11,6 +12,7 @@ pub fn spelling_laws()
     ensures no_spelling_begins_another { NoSpellingBeginsAnother }
     ensures spelling_is_short { SpellingIsShort }
     ensures fifteen_are_enough { FifteenAreEnough }
+    ensures code_is_any_front { CodeIsAnyFront }
 {}
 
 /// Does nothing: its clauses are the laws of each run, whatever stands at each address and from whatever state.
@@ -51,6 +53,15 @@ pub fn same_memory_laws()
     ensures forget_keeps_same { ForgetKeepsSame }
     ensures stack_keeps_same { StackKeepsSame }
     ensures put_all_within { PutAllWithin }
+{}
+
+/// Does nothing: its clauses say what holds of states at a start and after each step, and that a call does the same over
+/// two memories that differ only apart from its buffer.
+pub fn state_laws()
+    ensures start_is_forgotten { StartIsForgotten }
+    ensures step_forgets { StepForgets }
+    ensures step_keeps_kinds { StepKeepsKinds }
+    ensures call_apart { CallApart }
 {}
 
 /// Does nothing: its clauses are runs of small programs, each computed by the definitions.

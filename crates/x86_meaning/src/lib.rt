@@ -8,7 +8,7 @@ mod spelling;
 mod state;
 
 pub use instr::{Instr, Reg};
-pub use laws::{memory_laws, run_laws, same_memory_laws, spelling_laws, worked_runs};
+pub use laws::{memory_laws, run_laws, same_memory_laws, spelling_laws, state_laws, worked_runs};
 pub use spelling::front;
 pub use state::Cpu;
 

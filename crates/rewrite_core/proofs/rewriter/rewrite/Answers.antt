@@ -1,4 +1,4 @@
-use Rattle.std.proofs.Common.{◌≡◌, ◌≤◌, length, sym, ap, ◌∙◌, subst, arith, Some, unwrap_or}
+use Rattle.std.proofs.Common.{◌≡◌, ◌≤◌, length, sym, ap, ◌∙◌, subst, arith, Ok, Some, unwrap_or}
 use Rattle.elf_image.specs.declared.refusal.Room.TheVariants.{Any}
 use Rattle.elf_image.specs.Image.{image_of}
 use Rattle.rewrite_core.specs.Straight.{straight_length, straight_code}
@@ -28,4 +28,4 @@ returns c =
     let is : c.new.result ≡ rewritten file = c.new.ensures ∙ c.in_ok-file.ensures ∙ ap (λ t. new_file t (straight_code n t)) text ∙ ap (new_file (text_of file)) code in
     let within : n ≤ length (text_of file) = subst (λ t. n ≤ length t) text c.in-Some.ensures.within in
     let size = sym (ap length code) ∙ length-straight_code (text_of file) n within in
-    (list_takes file n plain list, is, ap (λ f. image_of f Any) is ∙ new_file_accepted (text_of file) (code_for file) plain.whole (omega (arith, size)) (omega (arith, size, within, plain.whole)))
+    record { rewritable = list_takes file n plain list; is = is; read = c.in-Ok.ensures.1 ∙ ap Ok c.in-Ok.ensures.2; accepted = ap (λ f. image_of f Any) is ∙ new_file_accepted (text_of file) (code_for file) plain.whole (omega (arith, size)) (omega (arith, size, within, plain.whole)) }

@@ -1,4 +1,5 @@
 use Rattle.trace_checks.proofs.Turns.{refuses_moved_event, refuses_other_address, refuses_lost_moment, refuses_late_guard, refuses_early_report, allows_split_events, allows_long_turn}
+use Rattle.trace_checks.proofs.Alternate.{allows_step_left_out}
 use Rattle.trace_checks.proofs.checks.turn_checks.Goals as goal
 
 pub returns-clause-refuses_moved_event : goal.returns-clause-refuses_moved_event
@@ -21,3 +22,6 @@ returns-clause-allows_split_events c = allows_split_events
 
 pub returns-clause-allows_long_turn : goal.returns-clause-allows_long_turn
 returns-clause-allows_long_turn c = allows_long_turn
+
+pub returns-clause-allows_step_left_out : goal.returns-clause-allows_step_left_out
+returns-clause-allows_step_left_out c = allows_step_left_out

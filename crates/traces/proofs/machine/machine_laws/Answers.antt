@@ -2,6 +2,7 @@ use Rattle.traces.proofs.Runs.{run_grows, end_comes, ends_once, agree}
 use Rattle.traces.proofs.Pace.{is_paced, is_one_event}
 use Rattle.traces.proofs.Adapt.{turned_ticks, turned_paced}
 use Rattle.traces.specs.Trace.{run}
+use Rattle.traces.proofs.TurnBounds.{outsided_run}
 use Rattle.traces.proofs.machine.machine_laws.Goals as goal
 
 pub returns-clause-run_grows : goal.returns-clause-run_grows
@@ -24,3 +25,6 @@ returns-clause-paced_by_moves g c = is_paced
 
 pub returns-clause-one_event_by_moves : goal.returns-clause-one_event_by_moves
 returns-clause-one_event_by_moves g c = is_one_event
+
+pub returns-clause-outsided_run : goal.returns-clause-outsided_run
+returns-clause-outsided_run g c = outsided_run

@@ -1,4 +1,4 @@
-use Rattle.x86_meaning.proofs.Spellings.{found_front, spelled_front, no_spelling_begins, short, none_spells, fifteen}
+use Rattle.x86_meaning.proofs.Spellings.{found_front, spelled_front, no_spelling_begins, short, none_spells, fifteen, any_front}
 use Rattle.x86_meaning.proofs.laws.spelling_laws.Goals as goal
 
 pub returns-clause-front_is_spelling : goal.returns-clause-front_is_spelling
@@ -15,3 +15,6 @@ returns-clause-spelling_is_short c = short
 
 pub returns-clause-fifteen_are_enough : goal.returns-clause-fifteen_are_enough
 returns-clause-fifteen_are_enough c = fifteen
+
+pub returns-clause-code_is_any_front : goal.returns-clause-code_is_any_front
+returns-clause-code_is_any_front c = any_front

@@ -1,0 +1,12 @@
+use Rattle.sw_host.proofs.Chain.{tells_map, tells_then}
+use Rattle.sw_top.specs.Words.{Names, texts}
+use Rattle.sw_top.proofs.TellLemmas.{served}
+use Rattle.sw_top.proofs.top.sw.Goals as goal
+
+pub returns-in_default-clause-serves : goal.returns-in_default-clause-serves
+returns-in_default-clause-serves g c = tells_map _ _ _ _ c.report.ensures.reports (λ a b p. record { form = c.in_default.ensures; reports = p })
+
+pub returns-clause-serves : goal.returns-clause-serves
+returns-clause-serves g c =
+    let names : Names = record { from = c.in-Some.files.from.now; to = c.in-Some.files.to.now; map = c.in-Some.files.map.now } in
+    tells_then _ _ _ _ _ _ c.perform-end.ensures.performs c.report-2.ensures.reports (λ a b d. served (texts c.args.words.now) names c.perform-end.result a b d c.in-Some.ensures)
