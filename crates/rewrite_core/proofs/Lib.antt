@@ -6,3 +6,8 @@ pub mod Outcomes
 pub mod PushLemmas
 pub mod LayoutLemmas
 pub mod CodeLemmas
+pub mod Lockstep
+pub mod Added
+pub mod BesideStates
+pub mod StraightRuns
+pub mod Agreements

@@ -11,7 +11,8 @@ use Rattle.elf_image.specs.Refusals.{first}
 use Rattle.elf_image.specs.Plain.{is_plain, plain_tests, plain_image}
 use Rattle.rewrite_core.specs.Met.{IsRewritable}
 use Rattle.rewrite_core.specs.Straight.{straight_length, straight_code, stop}
-use Rattle.rewrite_core.specs.Rewrites.{text_of, IsRefused}
+use Rattle.rewrite_core.specs.Written.{text_of}
+use Rattle.rewrite_core.specs.Rewrites.{IsRefused}
 use Rattle.rewrite_core.proofs.MetPlaces.{is_taken, has_list}
 use Rattle.rewrite_core.proofs.PlainPage.{plain_page}
 

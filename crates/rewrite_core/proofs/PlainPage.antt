@@ -8,7 +8,7 @@ use Rattle.elf_image.specs.Image.{segment_at, holds, code_byte_in, code_byte_at,
 use Rattle.elf_image.specs.Plain.{plain_image, text_segment}
 use Rattle.x86_meaning.specs.Spells.{front}
 use Rattle.x86_meaning.specs.Run.{code_of}
-use Rattle.rewrite_core.specs.Rewrites.{text_of}
+use Rattle.rewrite_core.specs.Written.{text_of}
 use Rattle.rewrite_core.proofs.Fronts.{first_of, front_take}
 use Rattle.rewrite_core.proofs.MetPlaces.{HasPage}
 

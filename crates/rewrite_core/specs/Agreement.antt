@@ -1,13 +1,14 @@
 -- When the run of a written file does what the run of the old file did.
-use Rattle.std.specs.Prelude.{ℕ, List}
+use Rattle.std.specs.Prelude.{◌≡◌, ℕ, ◌+◌, ◌<◌, ◌≤◌, List, length, All, None}
 use Rattle.traces.specs.Plain.{AgreePlainly}
 use Rattle.elf_image.specs.declared.image.Image.{Image}
 use Rattle.elf_image.specs.Plain.{plain_image}
+use Rattle.x86_meaning.specs.Memory.{Memory, SameOutside}
 use Rattle.x86_meaning.specs.SystemCall.{Environment}
-use Rattle.x86_meaning.specs.Run.{IsStart, IsEnvironment, run_of}
+use Rattle.x86_meaning.specs.Run.{IsStart, IsEnvironment, code_of, start_over, run_from, run_of}
 use Rattle.rewrite_core.specs.Met.{IsRewritable}
-use Rattle.rewrite_core.specs.Layout.{new_image}
-use Rattle.rewrite_core.specs.Rewrites.{text_of, code_for}
+use Rattle.rewrite_core.specs.Layout.{code_start, whole_pages, new_image}
+use Rattle.rewrite_core.specs.Written.{text_of, code_for}
 
 -- From every start, over every input and answers: what the old run does within n steps the new run does within at most
 -- 4096 * n + 256, with the same events and the same end, and it makes no other call and comes to no other end, unless
@@ -15,6 +16,21 @@ use Rattle.rewrite_core.specs.Rewrites.{text_of, code_for}
 abbrev pub RunsAgree : Image → Image → Type 0
 RunsAgree old new = (esp0 : ℕ) (stack : List ℕ) (left : Environment) → IsStart esp0 stack → IsEnvironment left → AgreePlainly 4096 256 (run_of old esp0 stack left) (run_of new esp0 stack left)
 
--- a file that is rewritten and the file that is written for it
+-- A file that is rewritten, and the file that is written for it. In a list that isn't one of bytes, a number above 255 may
+-- spell a constant above 2^32, which is moved by its lowest 32 bits: so an address of the new code's could be moved.
 abbrev pub NewFileAgrees : Type 0
-NewFileAgrees = (file : List ℕ) → IsRewritable file → RunsAgree (plain_image file) (new_image (text_of file) (code_for file))
+NewFileAgrees = (file : List ℕ) → All (λ b. b < 256) file → IsRewritable file → RunsAgree (plain_image file) (new_image (text_of file) (code_for file))
+
+-- The second memory is the first with more in [low, high), where the first has nothing, nor just below: so a buffer that
+-- begins elsewhere, and can be read or written, doesn't meet it.
+pub record IsAdded (low high : ℕ) (m n : Memory) : Type 0 where
+  pub free : (a : ℕ) → low ≤ a → a < high → m a ≡ None
+  pub edge : (a : ℕ) → a + 1 ≡ low → m a ≡ None
+  pub same : SameOutside low high m n
+
+-- The new code agrees with the old over any data, which needn't have the old code in it: it reads no place to learn what to do.
+abbrev pub NewCodeAgrees : Type 0
+NewCodeAgrees = (file : List ℕ) → All (λ b. b < 256) file → IsRewritable file → (m n : Memory) → IsAdded code_start (code_start + whole_pages (length (code_for file))) m n
+    → (esp0 : ℕ) (stack : List ℕ) (left : Environment) → IsStart esp0 stack → IsEnvironment left
+    → AgreePlainly 4096 256 (run_from (code_of (plain_image file)) (start_over m (plain_image file).entry esp0 stack left))
+    (run_from (code_of (new_image (text_of file) (code_for file))) (start_over n code_start esp0 stack left))

@@ -1,7 +1,8 @@
 pub mod Met
 pub mod Straight
 pub mod Layout
-pub mod Rewrites
+pub mod Written
 pub mod Agreement
+pub mod Rewrites
 pub use Rattle.elf_image.specs.Image
 pub use Rattle.elf_image.specs.Plain

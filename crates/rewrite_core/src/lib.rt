@@ -6,5 +6,5 @@ mod layout;
 mod rewriter;
 mod straight;
 
-pub use laws::layout_laws;
+pub use laws::{agreement_laws, layout_laws};
 pub use rewriter::{RewriteError, Rewritten, rewrite};

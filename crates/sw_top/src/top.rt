@@ -3,6 +3,7 @@ ghost use Rattle.std.specs.Prelude.{◌≡◌, ◌≤◌, ◌↔◌};
 ghost use Rattle.sw_host.specs.Told.{Tells, Rose};
 ghost use Rattle.sw_top.specs.Words.{texts, HasForm};
 ghost use Rattle.sw_top.specs.Serves.{Serves, Reports};
+ghost use Rattle.sw_top.specs.Headline.{Rewrote};
 
 use crate::End;
 use crate::end::line_of;
@@ -16,6 +17,8 @@ use sw_host::Host;
 /// any place from the load on; what was stored before stays.
 pub fn sw<H: Host>(alloc: Global, words: &[String], host: &mut H) -> End
     ensures serves { Tells (H.told host.old) (H.told host.new) (Serves (texts words.now) result) }
+    // After Done the run of the written file agrees with that of the old one.
+    ensures headline { result ≡ End.Done → Tells (H.told host.old) (H.told host.new) (Rewrote (texts words.now)) }
     // The words have no form exactly where this is the answer, whatever the host.
     ensures usage { (result ≡ End.Usage) ↔ (HasForm (texts words.now) → ⊥) }
     // A call of the host failed, as its count of faults shows.

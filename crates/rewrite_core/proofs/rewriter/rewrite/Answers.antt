@@ -1,11 +1,13 @@
-use Rattle.std.proofs.Common.{◌≡◌, ◌≤◌, length, sym, ap, ◌∙◌, subst, arith, Ok, Some, unwrap_or}
+use Rattle.std.proofs.Common.{◌≡◌, ◌≤◌, ◌<◌, length, sym, ap, ◌∙◌, subst, arith, Ok, Some, unwrap_or}
+use Rattle.std.proofs.lemmas.List.Elements.{All-from_get_or}
 use Rattle.elf_image.specs.declared.refusal.Room.TheVariants.{Any}
 use Rattle.elf_image.specs.Image.{image_of}
 use Rattle.rewrite_core.specs.Straight.{straight_length, straight_code}
 use Rattle.rewrite_core.specs.Layout.{new_file}
-use Rattle.rewrite_core.specs.Rewrites.{text_of, code_for, rewritten}
+use Rattle.rewrite_core.specs.Written.{text_of, code_for, rewritten}
 use Rattle.rewrite_core.proofs.Outcomes.{plain_file, list_refuses, list_takes, length-straight_code, text_is}
 use Rattle.rewrite_core.proofs.LayoutLemmas.{new_file_accepted}
+use Rattle.rewrite_core.proofs.Agreements.{new_file_agrees}
 use Rattle.rewrite_core.proofs.rewriter.rewrite.Goals as goal
 
 pub returns-in_default : goal.returns-in_default
@@ -27,5 +29,6 @@ returns c =
     let code : straight_code n (text_of file) ≡ code_for file = ap (λ o. straight_code (unwrap_or o 0) (text_of file)) (sym list) in
     let is : c.new.result ≡ rewritten file = c.new.ensures ∙ c.in_ok-file.ensures ∙ ap (λ t. new_file t (straight_code n t)) text ∙ ap (new_file (text_of file)) code in
     let within : n ≤ length (text_of file) = subst (λ t. n ≤ length t) text c.in-Some.ensures.within in
+    let bytes = All-from_get_or (λ b. b < 256) file 0 (λ i h. omega (arith, c.type_inv.bytes i)) in
     let size = sym (ap length code) ∙ length-straight_code (text_of file) n within in
-    record { rewritable = list_takes file n plain list; is = is; read = c.in-Ok.ensures.1 ∙ ap Ok c.in-Ok.ensures.2; accepted = ap (λ f. image_of f Any) is ∙ new_file_accepted (text_of file) (code_for file) plain.whole (omega (arith, size)) (omega (arith, size, within, plain.whole)) }
+    record { rewritable = list_takes file n plain list; is = is; read = c.in-Ok.ensures.1 ∙ ap Ok c.in-Ok.ensures.2; accepted = ap (λ f. image_of f Any) is ∙ new_file_accepted (text_of file) (code_for file) plain.whole (omega (arith, size)) (omega (arith, size, within, plain.whole)); agrees = new_file_agrees file bytes (list_takes file n plain list) }

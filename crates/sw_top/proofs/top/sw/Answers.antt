@@ -1,6 +1,9 @@
+use Rattle.std.proofs.Common.{subst}
 use Rattle.sw_host.proofs.Chain.{tells_map, tells_then}
 use Rattle.sw_top.specs.Words.{Names, texts}
+use Rattle.sw_top.specs.Serves.{Serves}
 use Rattle.sw_top.proofs.TellLemmas.{served}
+use Rattle.sw_top.proofs.Headlines.{rewrote}
 use Rattle.sw_top.proofs.top.sw.Goals as goal
 
 pub returns-in_default-clause-serves : goal.returns-in_default-clause-serves
@@ -10,3 +13,10 @@ pub returns-clause-serves : goal.returns-clause-serves
 returns-clause-serves g c =
     let names : Names = record { from = c.in-Some.files.from.now; to = c.in-Some.files.to.now; map = c.in-Some.files.map.now } in
     tells_then _ _ _ _ _ _ c.perform-end.ensures.performs c.report-2.ensures.reports (λ a b d. served (texts c.args.words.now) names c.perform-end.result a b d c.in-Some.ensures)
+
+pub returns-clause-headline : goal.returns-clause-headline
+returns-clause-headline g c e =
+    let names : Names = record { from = c.in-Some.files.from.now; to = c.in-Some.files.to.now; map = c.in-Some.files.map.now } in
+    let words = texts c.args.words.now in
+    tells_then _ _ _ _ _ _ c.perform-end.ensures.performs c.report-2.ensures.reports
+    (λ a b d p q. rewrote words a d (subst (λ end. Serves words end a d) e (served words names c.perform-end.result a b d c.in-Some.ensures p q)))
