@@ -1,6 +1,7 @@
 // All bytes that are wanted, through a reader or a writer that may take fewer at a time. Each says what moved where the
 // reader or the writer tells its bytes; a file tells none.
-ghost use Rattle.std.specs.Prelude.{◌≡◌, ◌≤◌, take, vec_len, IfOk, OnOk, IfSome};
+ghost use Rattle.std.specs.Prelude.{◌≡◌, ◌≢◌, ◌≤◌, take, vec_len, IfOk, OnOk, IfErr, IfSome};
+ghost use Rattle.std.specs.IoError.{error_kind};
 ghost use Rattle.std.specs.Io.KnownBytes.{Appends};
 
 use std::alloc::Global;
@@ -15,6 +16,8 @@ pub fn read_front<R: Read>(alloc: Global, reader: &mut R, limit: usize) -> io::R
     ensures limit { IfOk result (λ bytes. vec_len bytes ≤ limit) }
     ensures front { IfOk result (λ bytes. IfSome (R.remaining reader.old)
         (λ left. bytes.items ≡ take limit left)) }
+    // A read that a signal cut short is tried again.
+    ensures retried { IfErr result (λ error. error_kind error ≢ ErrorKind.Interrupted) }
 {
     let mut bytes = Vec::new(alloc);
     let mut piece = [0u8; PIECE];
@@ -35,7 +38,9 @@ pub fn read_front<R: Read>(alloc: Global, reader: &mut R, limit: usize) -> io::R
 
 /// Writes all the bytes.
 pub fn write_whole<W: Write>(writer: &mut W, bytes: &[u8]) -> io::Result<()>
-    ensures { OnOk result (Appends (W.contents writer.old) (W.contents writer.new) bytes.now) }
+    ensures whole { OnOk result (Appends (W.contents writer.old) (W.contents writer.new) bytes.now) }
+    // So is a write.
+    ensures retried { IfErr result (λ error. error_kind error ≢ ErrorKind.Interrupted) }
 {
     let mut done = 0;
     for _ in 0..u64::MAX {
