@@ -103,17 +103,12 @@ pub fn expect_code(
         map: NEW_MAP,
         line: b"",
     };
-    expect(
-        rt,
-        alloc,
-        name,
-        Call {
-            words,
-            from,
-            failing,
-        },
-        left,
-    )
+    let call = Call {
+        words,
+        from,
+        failing,
+    };
+    expect(rt, alloc, name, call, left)
 }
 
 // What a call leaves that stores nothing.
@@ -140,15 +135,10 @@ pub fn expect_refusal(
     let words = REWRITE;
     let failing = [0, 0];
     let left = nothing_stored(End::Refused(refusal), from, line);
-    expect(
-        rt,
-        alloc,
-        name,
-        Call {
-            words,
-            from,
-            failing,
-        },
-        left,
-    )
+    let call = Call {
+        words,
+        from,
+        failing,
+    };
+    expect(rt, alloc, name, call, left)
 }

@@ -215,17 +215,12 @@ fn reads_its_words(rt: HostRuntime) -> Result<(), Fail> {
         ("an empty command", &["", "in", "out", "map"]),
     ] {
         let left = nothing_stored(End::Usage, from, USAGE);
-        expect(
-            &rt,
-            alloc,
-            name,
-            Call {
-                words,
-                from,
-                failing,
-            },
-            left,
-        )?;
+        let call = Call {
+            words,
+            from,
+            failing,
+        };
+        expect(&rt, alloc, name, call, left)?;
     }
     Ok(())
 }
@@ -265,17 +260,12 @@ fn stores_over_its_input(rt: HostRuntime) -> Result<(), Fail> {
             map,
             line,
         };
-        expect(
-            &rt,
-            alloc,
-            name,
-            Call {
-                words,
-                from,
-                failing,
-            },
-            left,
-        )?;
+        let call = Call {
+            words,
+            from,
+            failing,
+        };
+        expect(&rt, alloc, name, call, left)?;
     }
     Ok(())
 }
@@ -312,17 +302,12 @@ fn tells_failing_calls(rt: HostRuntime) -> Result<(), Fail> {
             map,
             line,
         };
-        expect(
-            &rt,
-            alloc,
-            name,
-            Call {
-                words,
-                from,
-                failing,
-            },
-            left,
-        )?;
+        let call = Call {
+            words,
+            from,
+            failing,
+        };
+        expect(&rt, alloc, name, call, left)?;
     }
     Ok(())
 }
@@ -356,17 +341,12 @@ fn tells_failing_lines(rt: HostRuntime) -> Result<(), Fail> {
         ),
     ] {
         let left = nothing_stored(end, from, line);
-        expect(
-            &rt,
-            alloc,
-            name,
-            Call {
-                words,
-                from,
-                failing,
-            },
-            left,
-        )?;
+        let call = Call {
+            words,
+            from,
+            failing,
+        };
+        expect(&rt, alloc, name, call, left)?;
     }
     Ok(())
 }
