@@ -4,6 +4,8 @@
 mod answer;
 mod byte;
 mod list;
+#[cfg(test)]
+mod tests;
 mod word;
 
 pub use answer::Answer;

@@ -1,0 +1,76 @@
+// The files of the rows, as bytes (gABI, "ELF Header", "Program Header").
+ghost use Rattle.std.specs.Prelude.{◌≡◌, ◌≤◌, length, IfOk};
+
+use std::alloc::{AllocError, Global};
+
+// The headers: an executable file for the i386 with two segments, the sizes of the first still 0.
+const HEADERS: [u8; 116] = [
+    0x7F, 0x45, 0x4C, 0x46, 1, 1, 1, 0, 0, 0, 0, 0, 0, 0, 0, 0, 2, 0, 3, 0, 1, 0, 0, 0, 0x00, 0x90,
+    0x04, 0x08, 52, 0, 0, 0, 0, 0, 0, 0, 0, 0, 0, 0, 52, 0, 32, 0, 2, 0, 0, 0, 0, 0, 0, 0, // file
+    1, 0, 0, 0, 0, 0x10, 0, 0, 0, 0x90, 4, 8, 0, 0x90, 4, 8, 0, 0, 0, 0, 0, 0, 0, 0, 5, 0, 0, 0, 0,
+    0x10, 0, 0, // code
+    1, 0, 0, 0, 0, 0x20, 0, 0, 0, 0xA0, 4, 8, 0, 0xA0, 4, 8, 0, 0, 0, 0, 0, 0x10, 0, 0, 6, 0, 0, 0,
+    0, 0x10, 0, 0, // room
+];
+
+// mov ebx, 7; mov eax, 1; int 0x80; hlt
+pub const EXIT_SEVEN: &[u8] = b"\xBB\x07\0\0\0\xB8\x01\0\0\0\xCD\x80\xF4";
+
+// The new code of the above: the same, with a stop in the place of hlt.
+pub const NEW_EXIT_SEVEN: &[u8] = b"\xBB\x07\0\0\0\xB8\x01\0\0\0\xCD\x80\x0F\x0B";
+
+// push 3; push 2; call +13; add esp, 8; mov ebx, eax; mov eax, 1; int 0x80; hlt; mov eax, [esp + 4]; add eax, [esp + 8]; ret
+pub const ADD_TWO: &[u8] =
+    b"\x6A\x03\x6A\x02\xE8\x0D\0\0\0\x83\xC4\x08\x89\xC3\xB8\x01\0\0\0\xCD\x80\xF4\x8B\x44\x24\x04\x03\x44\x24\x08\xC3";
+
+// The file with this code: both sizes are its length, and it stands at 0x1000, before zeros up to 0x2000.
+pub fn file_of(alloc: Global, text: &[u8]) -> Result<Vec<u8>, AllocError>
+    requires { length text.now ≤ 4096 }
+    ensures { IfOk result (λ v. length v.items ≡ 8192) }
+{
+    let mut file = vec![in alloc; 0u8; 8192]?;
+    let size = (text.len() as u16).to_le_bytes();
+    file[..116].copy_from_slice(&HEADERS);
+    file[68..70].copy_from_slice(&size);
+    file[72..74].copy_from_slice(&size);
+    file[4096..4096 + text.len()].copy_from_slice(text);
+    Ok(file)
+}
+
+// The headers of the written file: the old code without leave to run it, the room, and new code at 0x60000000, of which the
+// size is still 0.
+const NEW_HEADERS: [u8; 148] = [
+    0x7F, 0x45, 0x4C, 0x46, 1, 1, 1, 0, 0, 0, 0, 0, 0, 0, 0, 0, 2, 0, 3, 0, 1, 0, 0, 0, 0, 0, 0,
+    0x60, 52, 0, 0, 0, 0, 0, 0, 0, 0, 0, 0, 0, 52, 0, 32, 0, 3, 0, 0, 0, 0, 0, 0, 0, // file
+    1, 0, 0, 0, 0, 0x10, 0, 0, 0, 0x90, 4, 8, 0, 0x90, 4, 8, 0, 0x10, 0, 0, 0, 0x10, 0, 0, 4, 0, 0,
+    0, 0, 0x10, 0, 0, // old code
+    1, 0, 0, 0, 0, 0x20, 0, 0, 0, 0xA0, 4, 8, 0, 0xA0, 4, 8, 0, 0, 0, 0, 0, 0x10, 0, 0, 6, 0, 0, 0,
+    0, 0x10, 0, 0, // room
+    1, 0, 0, 0, 0, 0x20, 0, 0, 0, 0, 0, 0x60, 0, 0, 0, 0x60, 0, 0, 0, 0, 0, 0, 0, 0, 5, 0, 0, 0, 0,
+    0x10, 0, 0, // new code
+];
+
+// The file that is written for a plain one with this new code: both sizes are its length.
+pub fn new_file_of(alloc: Global, file: &[u8], code: &[u8]) -> Result<Vec<u8>, AllocError>
+    requires plain { length file.now ≡ 8192 }
+    requires fits { length code.now ≤ 8192 }
+{
+    let mut new = vec![in alloc; 0u8; 8192]?;
+    let size = (code.len() as u16).to_le_bytes();
+    new[..148].copy_from_slice(&NEW_HEADERS);
+    new[132..134].copy_from_slice(&size);
+    new[136..138].copy_from_slice(&size);
+    new[4096..8192].copy_from_slice(&file[4096..8192]);
+    new.extend_from_slice(code)?;
+    Ok(new)
+}
+
+// So many times `mov eax, 1`, and then these bytes.
+pub fn moves_then(alloc: Global, count: usize, rest: &[u8]) -> Result<Vec<u8>, AllocError> {
+    let mut text = Vec::new(alloc);
+    for _ in 0..count {
+        text.extend_from_slice(b"\xB8\x01\0\0\0")?;
+    }
+    text.extend_from_slice(rest)?;
+    Ok(text)
+}

@@ -1,0 +1,144 @@
+// Calls over a host in memory, and what they leave there.
+ghost use Rattle.std.specs.Prelude.{◌≡◌, ◌≤◌, length};
+
+use crate::files::new_file_of;
+use elf_image::Refusal;
+use std::alloc::{AllocError, Global};
+use std::process::Abort;
+use std::test::Fail;
+use sw_host::MemoryHost;
+use sw_top::{End, sw};
+
+pub const OLD_OUT: &[u8] = b"an old OUT";
+
+pub const OLD_MAP: &[u8] = b"an old MAP";
+
+pub const NEW_MAP: &[u8] = b"secondwrite-map 1\n";
+
+pub const REWRITE: &[&str] = &["rewrite", "in", "out", "map"];
+
+// A call: its words, the file that is IN, and two calls of the host that fail, 0 for none.
+#[derive(Clone, Copy)]
+pub struct Call<'a> {
+    pub words: &'a [&'a str],
+    pub from: &'a [u8],
+    pub failing: [u64; 2],
+}
+
+// What a call leaves: its end, the three files, and the line, which is empty where none was said.
+#[derive(Clone, Copy)]
+pub struct Left<'a> {
+    pub end: End,
+    pub from: &'a [u8],
+    pub out: &'a [u8],
+    pub map: &'a [u8],
+    pub line: &'a [u8],
+}
+
+// A host with this file as IN, and an old OUT and MAP.
+fn host_with(alloc: Global, from: &[u8], failing: [u64; 2]) -> Result<MemoryHost, AllocError> {
+    let mut host = MemoryHost::new(alloc);
+    host.add_file("in", from)?;
+    host.add_file("out", OLD_OUT)?;
+    host.add_file("map", OLD_MAP)?;
+    host.fail_call(failing[0])?;
+    host.fail_call(failing[1])?;
+    Ok(host)
+}
+
+// The end of the top call with these words.
+pub fn end_of(alloc: Global, words: &[&str], host: &mut MemoryHost) -> Result<End, AllocError> {
+    let mut owned = Vec::new(alloc);
+    for word in words {
+        owned.push(String::from_str(alloc, word)?)?;
+    }
+    Ok(sw(alloc, owned.as_slice(), host))
+}
+
+// The one line that was said, or nothing.
+pub fn line_of(host: &MemoryHost) -> &[u8] {
+    match host.lines().as_slice() {
+        [] => b"",
+        [line] => line.as_slice(),
+        _ => b"more than one line",
+    }
+}
+
+// The call leaves this.
+pub fn expect(
+    rt: &impl Abort,
+    alloc: Global,
+    name: &str,
+    call: Call,
+    left: Left,
+) -> Result<(), Fail> {
+    let mut host = host_with(alloc, call.from, call.failing)?;
+    let end = end_of(alloc, call.words, &mut host)?;
+    assert_eq!(rt; end, left.end, "{name}");
+    assert_eq!(rt; line_of(&host), left.line, "{name}");
+    assert_eq!(rt; host.file("in"), Some(left.from), "{name}");
+    assert_eq!(rt; host.file("out"), Some(left.out), "{name}");
+    assert_eq!(rt; host.file("map"), Some(left.map), "{name}");
+    Ok(())
+}
+
+// The file is rewritten to the one with this new code.
+pub fn expect_code(
+    rt: &impl Abort,
+    alloc: Global,
+    name: &str,
+    from: &[u8],
+    code: &[u8],
+) -> Result<(), Fail>
+    requires plain { length from.now ≡ 8192 }
+    requires fits { length code.now ≤ 8192 }
+{
+    let out = new_file_of(alloc, from, code)?;
+    let words = REWRITE;
+    let failing = [0, 0];
+    let left = Left {
+        end: End::Done,
+        from,
+        out: out.as_slice(),
+        map: NEW_MAP,
+        line: b"",
+    };
+    let call = Call {
+        words,
+        from,
+        failing,
+    };
+    expect(rt, alloc, name, call, left)
+}
+
+// What a call leaves that stores nothing.
+pub fn nothing_stored<'a>(end: End, from: &'a [u8], line: &'a [u8]) -> Left<'a> {
+    let (out, map) = (OLD_OUT, OLD_MAP);
+    Left {
+        end,
+        from,
+        out,
+        map,
+        line,
+    }
+}
+
+// The file is refused with this line, and nothing is stored.
+pub fn expect_refusal(
+    rt: &impl Abort,
+    alloc: Global,
+    name: &str,
+    from: &[u8],
+    refusal: Refusal,
+    line: &[u8],
+) -> Result<(), Fail> {
+    let words = REWRITE;
+    let failing = [0, 0];
+    let left = nothing_stored(End::Refused(refusal), from, line);
+    let call = Call {
+        words,
+        from,
+        failing,
+    };
+    expect(rt, alloc, name, call, left)
+}

@@ -1,0 +1,9 @@
+//! Worked rows: the top call over a host in memory, its files made by hand. There are only tests here.
+#![tactic(auto)]
+
+#[cfg(test)]
+mod files;
+#[cfg(test)]
+mod hosts;
+#[cfg(test)]
+mod tests;

@@ -1,0 +1,367 @@
+// The rows. What is expected is written by hand, from Intel SDM volume 2, the gABI and this project's own rules.
+use crate::files::{ADD_TWO, EXIT_SEVEN, NEW_EXIT_SEVEN, file_of, moves_then, new_file_of};
+use crate::hosts::{
+    Call, Left, NEW_MAP, OLD_MAP, OLD_OUT, REWRITE, end_of, expect, expect_code, expect_refusal,
+    line_of, nothing_stored,
+};
+use elf_image::Refusal;
+use std::test::Fail;
+use sw_host::MemoryHost;
+use sw_top::{End, status};
+
+const NOT_YET: &[u8] = b"sw: refused NotYet";
+
+const HOST_FAULT: &[u8] = b"sw: host fault";
+
+const USAGE: &[u8] = b"sw: usage";
+
+#[test]
+fn rewrites_a_file(rt: HostRuntime) -> Result<(), Fail> {
+    let alloc = rt.alloc();
+    let file = file_of(alloc, EXIT_SEVEN)?;
+    let mut host = MemoryHost::new(alloc);
+    host.add_file("in", file.as_slice())?;
+    let end = end_of(alloc, REWRITE, &mut host)?;
+    assert_eq!(rt; end, End::Done);
+    assert_eq!(rt; status(&end), 0);
+    assert_eq!(rt; line_of(&host), b"".as_slice());
+    assert_eq!(rt; host.file("map"), Some(NEW_MAP));
+    let out = host.file("out").ok_or("no OUT")?;
+    assert_eq!(rt; out.len(), 8192 + 14);
+    assert_eq!(rt; &out[24..28], b"\0\0\0\x60".as_slice(), "the entry");
+    assert_eq!(rt; &out[4096..8192], &file[4096..8192]);
+    assert_eq!(rt; &out[8192..], NEW_EXIT_SEVEN);
+    Ok(())
+}
+
+// Texts, and the new code where they are rewritten.
+#[test]
+fn takes_straight_code(rt: HostRuntime) -> Result<(), Fail> {
+    let alloc = rt.alloc();
+    for (name, text, code) in [
+        ("exit with 7", EXIT_SEVEN, Some(NEW_EXIT_SEVEN)),
+        ("add two numbers", ADD_TWO, None),
+        (
+            "another call",
+            b"\xB8\x14\0\0\0\xCD\x80\xF4",
+            Some(b"\xB8\x14\0\0\0\xCD\x80\x0F\x0B"),
+        ),
+        ("jump to itself", b"\xEB\xFE", None),
+        ("jump to the next place", b"\xE9\0\0\0\0\xF4", None),
+        ("move 60000000", b"\xBE\0\0\0\x60\xF4", None),
+        (
+            "move 5FFFFFFF",
+            b"\xBE\xFF\xFF\xFF\x5F\xF4",
+            Some(b"\xBE\xFF\xFF\xFF\x5F\x0F\x0B"),
+        ),
+        ("move 7BFFFFFF", b"\xBF\xFF\xFF\xFF\x7B\xF4", None),
+        (
+            "move 7C000000",
+            b"\xBF\0\0\0\x7C\xF4",
+            Some(b"\xBF\0\0\0\x7C\x0F\x0B"),
+        ),
+        ("another byte", b"\x90", None),
+        ("another byte after a move", b"\xB9\x05\0\0\0\x90", None),
+        (
+            "another byte that isn't met",
+            b"\xF4\x90",
+            Some(b"\x0F\x0B"),
+        ),
+        (
+            "another interrupt",
+            b"\xBC\x05\0\0\0\xCD\x03",
+            Some(b"\xBC\x05\0\0\0\x0F\x0B"),
+        ),
+        // the zeros after the text complete the move, and the next place begins with 0
+        ("the text ends in a move", b"\xB8\x01", None),
+        ("the text ends after a call", b"\xCD\x80", None),
+        ("no text", b"", None),
+    ] {
+        assert!(rt; text.len() <= 4096, "{name}");
+        let file = file_of(alloc, text)?;
+        let Some(code) = code else {
+            expect_refusal(&rt, alloc, name, file.as_slice(), Refusal::NotYet, NOT_YET)?;
+            continue;
+        };
+        assert!(rt; code.len() <= 8192, "{name}");
+        expect_code(&rt, alloc, name, file.as_slice(), code)?;
+    }
+    Ok(())
+}
+
+// A page of moves, and what stands in its last bytes and in the place of these in the new code.
+#[test]
+fn takes_a_whole_page(rt: HostRuntime) -> Result<(), Fail> {
+    let alloc = rt.alloc();
+    for (name, count, last, new) in [
+        ("hlt", 819, b"\xF4".as_slice(), b"\x0F\x0B".as_slice()),
+        ("a move that is cut", 819, b"\xB8", b"\x0F\x0B"),
+        ("a call that is cut", 819, b"\xCD", b"\x0F\x0B"),
+        (
+            "calls",
+            818,
+            b"\xCD\x80\xCD\x80\xCD\x80",
+            b"\xCD\x80\xCD\x80\xCD\x80\x0F\x0B",
+        ),
+    ] {
+        let text = moves_then(alloc, count, last)?;
+        assert_eq!(rt; text.len(), 4096, "{name}");
+        let code = moves_then(alloc, count, new)?;
+        assert!(rt; code.len() <= 8192, "{name}");
+        let file = file_of(alloc, text.as_slice())?;
+        expect_code(&rt, alloc, name, file.as_slice(), code.as_slice())?;
+    }
+    Ok(())
+}
+
+// Sizes and first bytes of files that aren't plain: the first cause of a refusal is told.
+#[test]
+fn refuses_other_files(rt: HostRuntime) -> Result<(), Fail> {
+    let alloc = rt.alloc();
+    let short = b"sw: refused Short".as_slice();
+    let magic = b"sw: refused Magic".as_slice();
+    for (name, first, size, refusal, line) in [
+        ("empty", 0x7F, 0, Refusal::Short, short),
+        ("51 bytes", 0x7F, 51, Refusal::Short, short),
+        ("51 bytes, no magic", 0, 51, Refusal::Short, short),
+        ("52 bytes, no magic", 0, 52, Refusal::Magic, magic),
+        ("52 bytes", 0x7F, 52, Refusal::NotYet, NOT_YET),
+        ("8191 bytes", 0x7F, 8191, Refusal::NotYet, NOT_YET),
+        ("8192 bytes, no magic", 0, 8192, Refusal::Magic, magic),
+        ("8193 bytes", 0x7F, 8193, Refusal::NotYet, NOT_YET),
+        ("16384 bytes", 0x7F, 16384, Refusal::NotYet, NOT_YET),
+    ] {
+        let mut file = file_of(alloc, EXIT_SEVEN)?;
+        file[0] = first;
+        file.resize(size, 0)?;
+        expect_refusal(&rt, alloc, name, file.as_slice(), refusal, line)?;
+    }
+    let zeros = [0; 52];
+    expect_refusal(&rt, alloc, "52 zeros", &zeros, Refusal::Magic, magic)
+}
+
+// Fields of the headers: the byte that is changed, and whether the file is still plain.
+#[test]
+fn reads_each_field(rt: HostRuntime) -> Result<(), Fail> {
+    let alloc = rt.alloc();
+    for (name, at, byte, is_plain) in [
+        ("class", 4, 2, false),
+        ("order", 5, 2, false),
+        ("version", 6, 0, false),
+        ("system", 7, 3, true),
+        ("kind", 16, 3, false),
+        ("kind, high byte", 17, 1, false),
+        ("machine", 18, 62, false),
+        ("entry", 24, 5, false),
+        ("header table", 28, 53, false),
+        ("section table", 32, 1, true),
+        ("flags", 36, 1, true),
+        ("size of a header", 42, 40, false),
+        ("number of headers", 44, 1, false),
+        ("code: kind", 52, 2, false),
+        ("code: offset", 57, 0, false),
+        ("code: address", 61, 0x80, false),
+        ("code: physical address", 65, 0x80, true),
+        ("code: file size", 68, 12, false),
+        ("code: memory size", 72, 14, false),
+        ("code: flags", 76, 7, false),
+        ("code: alignment", 81, 0x20, true),
+        ("room: kind", 84, 0, false),
+        ("room: offset", 89, 0x10, false),
+        ("room: address", 93, 0xB0, false),
+        ("room: file size", 100, 1, false),
+        ("room: memory size", 105, 0x20, false),
+        ("room: flags", 108, 7, false),
+        ("between headers and code", 4095, 1, true),
+        ("after the code", 8191, 1, true),
+    ] {
+        assert!(rt; at < 8192);
+        let mut file = file_of(alloc, EXIT_SEVEN)?;
+        file[at] = byte;
+        if is_plain {
+            expect_code(&rt, alloc, name, file.as_slice(), NEW_EXIT_SEVEN)?;
+        } else {
+            expect_refusal(&rt, alloc, name, file.as_slice(), Refusal::NotYet, NOT_YET)?;
+        }
+    }
+    let mut longer = file_of(alloc, EXIT_SEVEN)?;
+    longer[69] = 0x10;
+    longer[73] = 0x10;
+    expect_refusal(
+        &rt,
+        alloc,
+        "over a page",
+        longer.as_slice(),
+        Refusal::NotYet,
+        NOT_YET,
+    )
+}
+
+#[test]
+fn reads_its_words(rt: HostRuntime) -> Result<(), Fail> {
+    let alloc = rt.alloc();
+    let file = file_of(alloc, EXIT_SEVEN)?;
+    let from = file.as_slice();
+    let failing = [0, 0];
+    for (name, words) in [
+        ("none", [].as_slice()),
+        ("two words", &["rewrite", "in"]),
+        ("three words", &["rewrite", "in", "out"]),
+        ("five words", &["rewrite", "in", "out", "map", "in"]),
+        ("OUT is MAP", &["rewrite", "in", "out", "out"]),
+        ("another command", &["run-steps", "07", "in"]),
+        ("another of four words", &["copy", "in", "out", "map"]),
+        ("another case", &["Rewrite", "in", "out", "map"]),
+        ("an empty command", &["", "in", "out", "map"]),
+    ] {
+        let left = nothing_stored(End::Usage, from, USAGE);
+        let call = Call {
+            words,
+            from,
+            failing,
+        };
+        expect(&rt, alloc, name, call, left)?;
+    }
+    Ok(())
+}
+
+// IN may be OUT or MAP.
+#[test]
+fn stores_over_its_input(rt: HostRuntime) -> Result<(), Fail> {
+    let alloc = rt.alloc();
+    let file = file_of(alloc, EXIT_SEVEN)?;
+    let new = new_file_of(alloc, file.as_slice(), NEW_EXIT_SEVEN)?;
+    let from = file.as_slice();
+    let new = new.as_slice();
+    let failing = [0, 0];
+    let end = End::Done;
+    let line = b"".as_slice();
+    for (name, words, from_after, out, map) in [
+        (
+            "IN is OUT",
+            ["rewrite", "in", "in", "map"],
+            new,
+            OLD_OUT,
+            NEW_MAP,
+        ),
+        (
+            "IN is MAP",
+            ["rewrite", "in", "out", "in"],
+            NEW_MAP,
+            new,
+            OLD_MAP,
+        ),
+    ] {
+        let words = words.as_slice();
+        let left = Left {
+            end,
+            from: from_after,
+            out,
+            map,
+            line,
+        };
+        let call = Call {
+            words,
+            from,
+            failing,
+        };
+        expect(&rt, alloc, name, call, left)?;
+    }
+    Ok(())
+}
+
+// Calls that fail, and what stands after them.
+#[test]
+fn tells_failing_calls(rt: HostRuntime) -> Result<(), Fail> {
+    let alloc = rt.alloc();
+    let file = file_of(alloc, EXIT_SEVEN)?;
+    let new = new_file_of(alloc, file.as_slice(), NEW_EXIT_SEVEN)?;
+    let from = file.as_slice();
+    let new = new.as_slice();
+    for (name, failing, end, out, map, line) in [
+        ("the load", [1, 0], End::Host, OLD_OUT, OLD_MAP, HOST_FAULT),
+        ("OUT", [2, 0], End::Host, OLD_OUT, OLD_MAP, HOST_FAULT),
+        ("MAP", [3, 0], End::Host, new, OLD_MAP, HOST_FAULT),
+        ("a fourth", [4, 0], End::Done, new, NEW_MAP, b"".as_slice()),
+        (
+            "the load and its line",
+            [1, 2],
+            End::Host,
+            OLD_OUT,
+            OLD_MAP,
+            b"",
+        ),
+        ("OUT and its line", [2, 3], End::Host, OLD_OUT, OLD_MAP, b""),
+        ("MAP and its line", [3, 4], End::Host, new, OLD_MAP, b""),
+    ] {
+        let words = REWRITE;
+        let left = Left {
+            end,
+            from,
+            out,
+            map,
+            line,
+        };
+        let call = Call {
+            words,
+            from,
+            failing,
+        };
+        expect(&rt, alloc, name, call, left)?;
+    }
+    Ok(())
+}
+
+// Calls that fail where nothing is stored.
+#[test]
+fn tells_failing_lines(rt: HostRuntime) -> Result<(), Fail> {
+    let alloc = rt.alloc();
+    let file = file_of(alloc, ADD_TWO)?;
+    let from = file.as_slice();
+    let refused = End::Refused(Refusal::NotYet);
+    for (name, words, failing, end, line) in [
+        ("the load", REWRITE, [1, 0], End::Host, HOST_FAULT),
+        ("a refusal's line", REWRITE, [2, 0], refused, b"".as_slice()),
+        ("a third", REWRITE, [3, 0], refused, NOT_YET),
+        ("a usage's line", &["rewrite"], [1, 0], End::Usage, b""),
+        ("a second", &["rewrite"], [2, 0], End::Usage, USAGE),
+        (
+            "no file",
+            &["rewrite", "no", "out", "map"],
+            [0, 0],
+            End::Host,
+            HOST_FAULT,
+        ),
+        (
+            "no file and no line",
+            &["rewrite", "no", "out", "map"],
+            [2, 0],
+            End::Host,
+            b"",
+        ),
+    ] {
+        let left = nothing_stored(end, from, line);
+        let call = Call {
+            words,
+            from,
+            failing,
+        };
+        expect(&rt, alloc, name, call, left)?;
+    }
+    Ok(())
+}
+
+#[test]
+fn has_statuses(rt: HostRuntime) {
+    for (end, number) in [
+        (End::Done, 0),
+        (End::Memory, 120),
+        (End::Host, 121),
+        (End::Refused(Refusal::Short), 124),
+        (End::Refused(Refusal::Permission), 124),
+        (End::Refused(Refusal::NotYet), 124),
+        (End::Usage, 125),
+    ] {
+        assert_eq!(rt; status(&end), number, "{end:?}");
+    }
+}
