@@ -1,7 +1,7 @@
 // Calls over a host in memory, and what they leave there.
 ghost use Rattle.std.specs.Prelude.{◌≡◌, ◌≤◌, length};
 
-use crate::files::new_file_of;
+use crate::files::{file_of, new_file_of};
 use elf_image::Refusal;
 use std::alloc::{AllocError, Global};
 use std::process::Abort;
@@ -14,6 +14,8 @@ pub const OLD_OUT: &[u8] = b"an old OUT";
 pub const OLD_MAP: &[u8] = b"an old MAP";
 
 pub const NEW_MAP: &[u8] = b"secondwrite-map 1\n";
+
+pub const NOT_YET: &[u8] = b"sw: refused NotYet";
 
 pub const REWRITE: &[&str] = &["rewrite", "in", "out", "map"];
 
@@ -141,4 +143,21 @@ pub fn expect_refusal(
         failing,
     };
     expect(rt, alloc, name, call, left)
+}
+
+// The file with this text is rewritten to the one with this new code, or isn't taken yet.
+pub fn expect_answer(
+    rt: &impl Abort,
+    alloc: Global,
+    name: &str,
+    text: &[u8],
+    code: Option<&[u8]>,
+) -> Result<(), Fail> {
+    assert!(rt; text.len() <= 4096, "{name}");
+    let file = file_of(alloc, text)?;
+    let Some(code) = code else {
+        return expect_refusal(rt, alloc, name, file.as_slice(), Refusal::NotYet, NOT_YET);
+    };
+    assert!(rt; code.len() <= 8192, "{name}");
+    expect_code(rt, alloc, name, file.as_slice(), code)
 }

@@ -1,15 +1,13 @@
 // The rows. What is expected is written by hand, from Intel SDM volume 2, the gABI and this project's own rules.
 use crate::files::{ADD_TWO, EXIT_SEVEN, NEW_EXIT_SEVEN, file_of, moves_then, new_file_of};
 use crate::hosts::{
-    Call, Left, NEW_MAP, OLD_MAP, OLD_OUT, REWRITE, end_of, expect, expect_code, expect_refusal,
-    line_of, nothing_stored,
+    Call, Left, NEW_MAP, NOT_YET, OLD_MAP, OLD_OUT, REWRITE, end_of, expect, expect_answer,
+    expect_code, expect_refusal, line_of, nothing_stored,
 };
 use elf_image::Refusal;
 use std::test::Fail;
 use sw_host::MemoryHost;
 use sw_top::{End, status};
-
-const NOT_YET: &[u8] = b"sw: refused NotYet";
 
 const HOST_FAULT: &[u8] = b"sw: host fault";
 
@@ -46,8 +44,6 @@ fn takes_straight_code(rt: HostRuntime) -> Result<(), Fail> {
             b"\xB8\x14\0\0\0\xCD\x80\xF4",
             Some(b"\xB8\x14\0\0\0\xCD\x80\x0F\x0B"),
         ),
-        ("jump to itself", b"\xEB\xFE", None),
-        ("jump to the next place", b"\xE9\0\0\0\0\xF4", None),
         ("move 60000000", b"\xBE\0\0\0\x60\xF4", None),
         (
             "move 5FFFFFFF",
@@ -77,14 +73,87 @@ fn takes_straight_code(rt: HostRuntime) -> Result<(), Fail> {
         ("the text ends after a call", b"\xCD\x80", None),
         ("no text", b"", None),
     ] {
-        assert!(rt; text.len() <= 4096, "{name}");
-        let file = file_of(alloc, text)?;
-        let Some(code) = code else {
-            expect_refusal(&rt, alloc, name, file.as_slice(), Refusal::NotYet, NOT_YET)?;
-            continue;
-        };
-        assert!(rt; code.len() <= 8192, "{name}");
-        expect_code(&rt, alloc, name, file.as_slice(), code)?;
+        expect_answer(&rt, alloc, name, text, code)?;
+    }
+    Ok(())
+}
+
+// Texts with jumps, and the new code where they are rewritten.
+#[test]
+fn takes_jumps(rt: HostRuntime) -> Result<(), Fail> {
+    let alloc = rt.alloc();
+    for (name, text, code) in [
+        (
+            "to itself",
+            b"\xEB\xFE".as_slice(),
+            Some(b"\xE9\xFB\xFF\xFF\xFF".as_slice()),
+        ),
+        (
+            "to the next place",
+            b"\xE9\0\0\0\0\xF4",
+            Some(b"\xE9\0\0\0\0\x0F\x0B"),
+        ),
+        (
+            "a loop",
+            b"\xB8\x01\0\0\0\xCD\x80\xEB\xF7",
+            Some(b"\xB8\x01\0\0\0\xCD\x80\xE9\xF4\xFF\xFF\xFF"),
+        ),
+        // the move is reached after the place to which it leads
+        (
+            "on to a place that is placed",
+            b"\xEB\x05\xB8\x01\0\0\0\xEB\xF9",
+            Some(
+                b"\xE9\0\0\0\0\xE9\0\0\0\0\xB8\x01\0\0\0\xE9\xF1\xFF\xFF\xFF",
+            ),
+        ),
+        // place 1 is in the constant of the move
+        (
+            "code over other code",
+            b"\xB8\xCD\x80\xF4\xF4\xEB\xFA",
+            Some(b"\xB8\xCD\x80\xF4\xF4\xE9\0\0\0\0\xCD\x80\x0F\x0B"),
+        ),
+        (
+            "below the page",
+            b"\xEB\x80",
+            Some(b"\xE9\0\0\0\0\x0F\x0B"),
+        ),
+        (
+            "behind the page",
+            b"\xE9\xFB\x0F\0\0",
+            Some(b"\xE9\0\0\0\0\x0F\x0B"),
+        ),
+        (
+            "over another byte",
+            b"\xEB\x01\x90\xF4",
+            Some(b"\xE9\0\0\0\0\x0F\x0B"),
+        ),
+        ("to another byte", b"\xEB\0\x90", None),
+        (
+            "to a move of 60000000",
+            b"\xEB\0\xBE\0\0\0\x60\xF4",
+            None,
+        ),
+    ] {
+        expect_answer(&rt, alloc, name, text, code)?;
+    }
+    Ok(())
+}
+
+// What stands in the last byte of the page, a jump to it, and the new code where it is rewritten.
+#[test]
+fn jumps_to_the_last_byte(rt: HostRuntime) -> Result<(), Fail> {
+    let alloc = rt.alloc();
+    for (name, last, code) in [
+        ("hlt", 0xF4, Some(b"\xE9\0\0\0\0\x0F\x0B".as_slice())),
+        ("a call that is cut", 0xCD, Some(b"\xE9\0\0\0\0\x0F\x0B")),
+        ("a jump that is cut", 0xEB, Some(b"\xE9\0\0\0\0\x0F\x0B")),
+        ("another byte", 0x90, None),
+    ] {
+        let mut text = Vec::new(alloc);
+        text.extend_from_slice(b"\xE9\xFA\x0F\0\0")?;
+        text.resize(4095, 0)?;
+        text.push(last)?;
+        expect_answer(&rt, alloc, name, text.as_slice(), code)?;
     }
     Ok(())
 }
