@@ -102,9 +102,7 @@ fn takes_jumps(rt: HostRuntime) -> Result<(), Fail> {
         (
             "on to a place that is placed",
             b"\xEB\x05\xB8\x01\0\0\0\xEB\xF9",
-            Some(
-                b"\xE9\0\0\0\0\xE9\0\0\0\0\xB8\x01\0\0\0\xE9\xF1\xFF\xFF\xFF",
-            ),
+            Some(b"\xE9\0\0\0\0\xE9\0\0\0\0\xB8\x01\0\0\0\xE9\xF1\xFF\xFF\xFF"),
         ),
         // place 1 is in the constant of the move
         (
@@ -112,11 +110,7 @@ fn takes_jumps(rt: HostRuntime) -> Result<(), Fail> {
             b"\xB8\xCD\x80\xF4\xF4\xEB\xFA",
             Some(b"\xB8\xCD\x80\xF4\xF4\xE9\0\0\0\0\xCD\x80\x0F\x0B"),
         ),
-        (
-            "below the page",
-            b"\xEB\x80",
-            Some(b"\xE9\0\0\0\0\x0F\x0B"),
-        ),
+        ("below the page", b"\xEB\x80", Some(b"\xE9\0\0\0\0\x0F\x0B")),
         (
             "behind the page",
             b"\xE9\xFB\x0F\0\0",
@@ -128,11 +122,7 @@ fn takes_jumps(rt: HostRuntime) -> Result<(), Fail> {
             Some(b"\xE9\0\0\0\0\x0F\x0B"),
         ),
         ("to another byte", b"\xEB\0\x90", None),
-        (
-            "to a move of 60000000",
-            b"\xEB\0\xBE\0\0\0\x60\xF4",
-            None,
-        ),
+        ("to a move of 60000000", b"\xEB\0\xBE\0\0\0\x60\xF4", None),
     ] {
         expect_answer(&rt, alloc, name, text, code)?;
     }

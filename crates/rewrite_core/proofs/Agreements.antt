@@ -20,7 +20,7 @@ use Rattle.rewrite_core.proofs.Added.{Away, added_stack}
 use Rattle.rewrite_core.proofs.BesideStates.{Beside, constant_away}
 use Rattle.rewrite_core.proofs.PlaceRuns.{IsNew, one_step}
 
-plain_whole : (file : List ℕ) → IsRewritable file → length (text_of file) ≡ 4096
+pub plain_whole : (file : List ℕ) → IsRewritable file → length (text_of file) ≡ 4096
 unfolding is_plain
 plain_whole file r =
     let size : length file ≡ 8192 = eqb-true (length file) 8192 (and_parts _ _ (and_parts _ _ (and_parts _ _ r.plain).0).0).0 in

@@ -51,7 +51,7 @@ set_either P ws i j w d p q = elim (eqb_tells j i) [
       ]
 ]
 
-known_word : (n : ℕ) → n < 2 ^ 32 → known (word_of n) ≡ Some n
+pub known_word : (n : ℕ) → n < 2 ^ 32 → known (word_of n) ≡ Some n
 unfolding known word_of
 known_word n h = ap Some (omega arith)
 

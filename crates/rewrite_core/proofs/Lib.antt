@@ -9,6 +9,7 @@ pub mod JudgedPlaces
 pub mod LaidCode
 pub mod LayoutLemmas
 pub mod Lockstep
+pub mod Loops
 pub mod MetPlaces
 pub mod NewPlaces
 pub mod PageAddresses

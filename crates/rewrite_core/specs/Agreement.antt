@@ -1,6 +1,6 @@
 -- When the run of a written file does what the run of the old file did.
-use Rattle.std.specs.Prelude.{◌≡◌, ℕ, ◌+◌, ◌<◌, ◌≤◌, List, length, All, None}
-use Rattle.traces.specs.Plain.{AgreePlainly}
+use Rattle.std.specs.Prelude.{◌≡◌, ℕ, ◌+◌, ◌<◌, ◌≤◌, List, ◌∷◌, length, All, None}
+use Rattle.traces.specs.Plain.{AgreePlainly, NeverEnds}
 use Rattle.elf_image.specs.declared.image.Image.{Image}
 use Rattle.elf_image.specs.Plain.{plain_image}
 use Rattle.x86_meaning.specs.Memory.{Memory, SameOutside}
@@ -34,3 +34,9 @@ NewCodeAgrees = (file code : List ℕ) → All (λ b. b < 256) file → IsRewrit
     → (esp0 : ℕ) (stack : List ℕ) (left : Environment) → IsStart esp0 stack → IsEnvironment left
     → AgreePlainly 4096 256 (run_from (code_of (plain_image file)) (start_over m (plain_image file).entry esp0 stack left))
     (run_from (code_of (new_image (text_of file) code)) (start_over n code_start esp0 stack left))
+
+-- a file whose code begins with a jump to itself, EB FE, and the file that is written for it: neither run ever ends
+abbrev pub LoopsNeverEnd : Type 0
+LoopsNeverEnd = (file code rest : List ℕ) → All (λ b. b < 256) file → IsRewritable file → text_of file ≡ 0xEB ∷ 0xFE ∷ rest → IsLaid (text_of file) code
+    → (esp0 : ℕ) (stack : List ℕ) (left : Environment) → IsStart esp0 stack → IsEnvironment left
+    → NeverEnds (run_of (plain_image file) esp0 stack left) × NeverEnds (run_of (new_image (text_of file) code) esp0 stack left)

@@ -1,5 +1,5 @@
 // What the written file means.
-ghost use Rattle.rewrite_core.specs.Agreement.{NewCodeAgrees, NewFileAgrees};
+ghost use Rattle.rewrite_core.specs.Agreement.{LoopsNeverEnd, NewCodeAgrees, NewFileAgrees};
 ghost use Rattle.rewrite_core.specs.Layout.{NewCodeIsAll, NewCodeIsInPages, NewCodeIsThere, NewFileIsAccepted, RowIsWritten};
 
 /// Does nothing: its clauses are the laws of the written file. It is accepted as its image, whose bytes that can be run are
@@ -14,8 +14,9 @@ pub fn layout_laws()
 
 /// Does nothing: its clauses say that the run of a written file does what the run of the old file did, within 4096 steps
 /// for each of its and 256 more, and nothing else; and that the new code does so over any data, also where the old code
-/// isn't there.
+/// isn't there. Of a jump to itself they say that neither run ever ends.
 pub fn agreement_laws()
     ensures new_code { NewCodeAgrees }
     ensures new_file { NewFileAgrees }
+    ensures loops { LoopsNeverEnd }
 {}
