@@ -90,10 +90,10 @@ no_escape r n e = is_false _ (λ h. nothing_there _ n r e (escape_entry (key_of 
 
 -- ---- each member of a group has ModRM
 
-some_row : (q r : Row) → Some q ≡ Some r → q ≡ r
+pub some_row : (q r : Row) → Some q ≡ Some r → q ≡ r
 some_row q r h = cc
 
-none_row : (r : Row) → None ≡ Some r → ⊥
+pub none_row : (r : Row) → None ≡ Some r → ⊥
 none_row r h = cc
 
 abbrev has : Row → Type 0
