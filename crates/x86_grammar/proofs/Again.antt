@@ -1,5 +1,5 @@
 -- The map gives each row at its opcode.
-use Rattle.std.proofs.Common.{◌≡◌, ℕ, zero, suc, Option, Some, None, Bool, true, false, eqb, refl, sym}
+use Rattle.std.proofs.Common.{◌≡◌, ℕ, Some, true, false, refl}
 use Rattle.std.proofs.lemmas.Bool.{eqb-true, false≢true}
 use Rattle.x86_types.specs.declared.operand.Reg.TheVariants as reg
 use Rattle.x86_types.specs.declared.operation.AluOp.TheVariants as alu

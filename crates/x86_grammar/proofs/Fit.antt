@@ -1,22 +1,19 @@
 -- An instruction has a spelling exactly where its fields fit.
-use Rattle.std.proofs.Common.{◌≡◌, ℕ, zero, suc, ◌+◌, ◌-◌, ◌*◌, ◌^◌, ◌<◌, ◌≤◌, ◌%◌, Bool, true, false, cond, not, ltb, eqb, ◌&&◌, ◌||◌, List, [], ◌∷◌, ◌++◌, length, Option, Some, None, inl, inr, ◌⊎◌, lit<, lit≤, refl, sym, ap, subst, ◌∙◌, arith, length-append}
+use Rattle.std.proofs.Common.{◌≡◌, ℕ, zero, suc, ◌+◌, ◌-◌, ◌^◌, ◌<◌, ◌≤◌, Bool, true, false, cond, not, ltb, eqb, ◌&&◌, ◌||◌, List, [], ◌∷◌, ◌++◌, length, Option, Some, None, inl, lit<, lit≤, refl, sym, subst, ◌∙◌, arith, length-append}
 use Rattle.std.proofs.lemmas.Bool.{false≢true, lt-ltb, ltb-true, cond_both}
 use Rattle.std.specs.Prelude.{IfSome, ◌↔◌, ◌/◌}
 use Rattle.std.specs.List.{AllByRecursion}
-use Rattle.x86_types.specs.Numbers.{size_of, number_of_reg, number_of_alu, number_of_shift}
-use Rattle.x86_types.specs.declared.operand.Reg.{Reg}
+use Rattle.x86_types.specs.Numbers.{size_of, number_of_alu, number_of_shift}
 use Rattle.x86_types.specs.declared.operand.Reg.TheVariants as reg
 use Rattle.x86_types.specs.declared.operation.AluOp.{AluOp}
 use Rattle.x86_types.specs.declared.operation.AluOp.TheVariants as alu
 use Rattle.x86_types.specs.declared.operation.ShiftOp.{ShiftOp}
 use Rattle.x86_types.specs.declared.operation.ShiftOp.TheVariants as shift
-use Rattle.x86_types.specs.declared.operation.Count.{Count}
 use Rattle.x86_types.specs.declared.operation.Count.TheVariants as count
 use Rattle.x86_types.specs.declared.width.Width.{Width}
 use Rattle.x86_types.specs.declared.width.Width.TheVariants.{One, Two, Four}
 use Rattle.x86_types.specs.declared.operand.Rm.{Rm}
 use Rattle.x86_types.specs.declared.operand.Rm.TheVariants as rm
-use Rattle.x86_types.specs.declared.operand.Src.{Src}
 use Rattle.x86_types.specs.declared.operand.Src.TheVariants as src
 use Rattle.x86_types.specs.declared.instr.Instr.{Instr}
 use Rattle.x86_types.specs.declared.instr.Instr.TheVariants as instr
@@ -27,10 +24,10 @@ use Rattle.x86_grammar.specs.Rows.{can_half, has_operand, imm_size, width_of, wi
 use Rattle.x86_grammar.specs.Meaning.{build}
 use Rattle.x86_grammar.specs.Forms.{forms, In, full_of, half_of, signed}
 use Rattle.x86_grammar.specs.Operand.{Operand, rm_of, le, sibs, has_sib, disp_size, mod_size, low_of}
-use Rattle.x86_grammar.specs.Spells.{is_prefix, counts_of, prefixes_fit, half_in, opcode_bytes, operand_part, bytes_of, Shows, Spelling, IsSpelling, Spells}
+use Rattle.x86_grammar.specs.Spells.{is_prefix, counts_of, prefixes_fit, half_in, opcode_bytes, operand_part, bytes_of, Spelling, IsSpelling}
 use Rattle.x86_grammar.specs.Fields.{number_fits, rm_fits, is_wide, widens, fields_fit, HasSpelling}
 use Rattle.x86_grammar.proofs.Map.{and_left, and_right}
-use Rattle.x86_grammar.proofs.Means.{Means, Suits, mean_of, forms_mean, rm_or, is_none}
+use Rattle.x86_grammar.proofs.Means.{Means, mean_of, forms_mean, rm_or, is_none}
 use Rattle.x86_grammar.proofs.LittleEndian.{length-le}
 use Rattle.x86_grammar.proofs.Operands.{both, reg_low, rm_is_fit, Shown, rm_shown}
 

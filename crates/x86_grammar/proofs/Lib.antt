@@ -5,3 +5,4 @@ pub mod Map
 pub mod Means
 pub mod Operands
 pub mod Whole
+pub mod Worked

@@ -1,10 +1,8 @@
 -- What the map says at each opcode is right, and no row stands at a prefix or at 0F.
-use Rattle.std.proofs.Common.{◌≡◌, ℕ, zero, suc, ◌+◌, ◌*◌, ◌<◌, ◌/◌, ◌%◌, Option, Some, None, Bool, true, false, ◌&&◌, ◌||◌, eqb, ltb, subst, refl, ap, ◌∙◌, sym, arith, [], ◌∷◌, List, inl, inr, ◌⊎◌}
+use Rattle.std.proofs.Common.{◌≡◌, ℕ, zero, suc, ◌<◌, Option, Some, None, Bool, true, false, ◌&&◌, ◌||◌, eqb, subst, refl, arith, inl, inr, ◌⊎◌}
 use Rattle.std.proofs.lemmas.Bool.{agree_below, agree_below_at, eqb-true, false≢true, cases_lt}
-use Rattle.x86_types.specs.Numbers.{shift_of}
 use Rattle.x86_types.specs.declared.operation.ShiftOp.{ShiftOp}
 use Rattle.x86_grammar.specs.declared.row.Row.{Row}
-use Rattle.x86_grammar.specs.declared.row.Row.TheVariants as row
 use Rattle.x86_grammar.specs.declared.row.Group.{Group}
 use Rattle.x86_grammar.specs.declared.row.Group.TheVariants as group
 use Rattle.x86_grammar.specs.declared.row.Entry.{Entry}

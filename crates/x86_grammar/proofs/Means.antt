@@ -1,7 +1,7 @@
 -- Each form of an instruction means it.
-use Rattle.std.proofs.Common.{◌≡◌, ℕ, zero, suc, ◌+◌, ◌-◌, ◌<◌, ◌%◌, ◌^◌, Option, Some, None, Bool, true, false, cond, not, ◌&&◌, ◌||◌, eqb, ltb, eq-eqb, subst, refl, ap, ◌∙◌, sym, arith, [], ◌∷◌, ◌++◌, List, inl, inr, ◌⊎◌, rules}
+use Rattle.std.proofs.Common.{◌≡◌, ℕ, zero, suc, ◌%◌, Option, Some, None, Bool, true, false, cond, not, ◌&&◌, ◌||◌, eqb, eq-eqb, subst, refl, sym, [], ◌∷◌, ◌++◌, List, inl, inr}
 use Rattle.std.proofs.lemmas.Bool.{eqb-true, cond_both}
-use Rattle.x86_types.specs.Numbers.{number_of_reg, number_of_alu, number_of_shift, reg_of, alu_of}
+use Rattle.x86_types.specs.Numbers.{number_of_reg, number_of_alu, number_of_shift}
 use Rattle.x86_types.proofs.Inverses.{reg_of-number, alu_of-number}
 use Rattle.x86_types.specs.declared.operand.Reg.{Reg}
 use Rattle.x86_types.specs.declared.operand.Reg.TheVariants as reg
@@ -21,9 +21,9 @@ use Rattle.x86_types.specs.declared.instr.Instr.TheVariants as instr
 use Rattle.x86_grammar.specs.declared.row.Form.{Form}
 use Rattle.x86_grammar.specs.declared.row.Row.{Row}
 use Rattle.x86_grammar.specs.declared.row.Row.TheVariants as row
-use Rattle.x86_grammar.specs.Rows.{middle_of, fits_middle, can_half, rep_fits, has_operand, imm_size, width_of}
+use Rattle.x86_grammar.specs.Rows.{middle_of, fits_middle, can_half, rep_fits, has_operand, width_of}
 use Rattle.x86_grammar.specs.Meaning.{build, src_of, number_alone}
-use Rattle.x86_grammar.specs.Forms.{forms, In, full_of, half_of, signed, if_signed, with_rm, plain, repeated, alu_byte, if_reg, if_acc, not_one, number_only, mov_load, mov_store, short_step, unit, to_reg, imul_by_forms, xchg_short, other_reg}
+use Rattle.x86_grammar.specs.Forms.{forms, In, full_of, half_of, signed, if_signed, with_rm, plain, alu_byte, if_reg, if_acc, not_one, number_only, mov_load, mov_store, short_step, unit, imul_by_forms, xchg_short, other_reg}
 
 abbrev pub rm_or : Option Rm → Rm → Rm
 rm_or None m = m

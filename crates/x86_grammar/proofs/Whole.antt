@@ -1,5 +1,5 @@
 -- A reader from left to right gives at each spelling its instruction, whatever follows.
-use Rattle.std.proofs.Common.{◌≡◌, ℕ, zero, suc, ◌+◌, ◌-◌, ◌*◌, ◌/◌, ◌%◌, ◌^◌, ◌<◌, ◌≤◌, Bool, true, false, cond, not, ltb, eqb, ◌&&◌, ◌||◌, List, [], ◌∷◌, ◌++◌, length, take, drop, Option, Some, None, inl, inr, ◌⊎◌, lit<, refl, sym, ap, subst, ◌∙◌, append_assoc, arith, length-append}
+use Rattle.std.proofs.Common.{◌≡◌, ℕ, ◌+◌, ◌-◌, ◌/◌, ◌%◌, ◌^◌, ◌<◌, Bool, true, false, cond, ltb, eqb, ◌&&◌, ◌||◌, List, [], ◌∷◌, ◌++◌, length, take, drop, Option, Some, None, lit<, refl, sym, ap, subst, ◌∙◌, append_assoc, arith, length-append}
 use Rattle.std.proofs.lemmas.Bool.{false≢true, ltb-false, eqb-true}
 use Rattle.std.proofs.lemmas.List.{drop_at, take_at}
 use Rattle.std.specs.Prelude.{IfSome}
@@ -13,7 +13,7 @@ use Rattle.x86_grammar.specs.declared.row.Row.{Row}
 use Rattle.x86_grammar.specs.declared.row.Counts.{Counts}
 use Rattle.x86_grammar.specs.declared.row.Entry.{Entry}
 use Rattle.x86_grammar.specs.declared.row.Entry.TheVariants as entry
-use Rattle.x86_grammar.specs.Table.{entry_of, row_in, row_at, member_of}
+use Rattle.x86_grammar.specs.Table.{entry_of, row_in, row_at}
 use Rattle.x86_grammar.specs.Rows.{key_of, has_operand, imm_size}
 use Rattle.x86_grammar.specs.Meaning.{build}
 use Rattle.x86_grammar.specs.Forms.{forms}
@@ -21,7 +21,7 @@ use Rattle.x86_grammar.specs.Operand.{le, from_le, has_sib, disp_size, rm_of, si
 use Rattle.x86_grammar.specs.Spells.{is_prefix, more, no_counts, counted, counts_of, prefixes_fit, half_in, opcode_bytes, operand_part, bytes_of, Spelling, IsSpelling, Spells}
 use Rattle.x86_grammar.proofs.Again.{row_again}
 use Rattle.x86_grammar.proofs.Map.{and_left, and_right, some_row, none_row, members_have, no_prefix, no_escape}
-use Rattle.x86_grammar.proofs.Means.{Means, mean_of, forms_mean, rm_or, is_plain, is_none}
+use Rattle.x86_grammar.proofs.Means.{Means, mean_of, forms_mean, rm_or, is_none}
 use Rattle.x86_grammar.proofs.LittleEndian.{length-le, from_le-le}
 
 pub data Seen : Type 0 where

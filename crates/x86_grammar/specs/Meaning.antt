@@ -1,6 +1,6 @@
 -- What the parts of a spelling mean: the row, whether 66 makes width Two, whether F3 stands, ModRM's
 -- middle field, its operand, and the number at the end.
-use Rattle.std.specs.Prelude.{ℕ, Bool, true, false, Option, Some, None, if◌then◌else◌, ◌==◌}
+use Rattle.std.specs.Prelude.{ℕ, Bool, true, Option, Some, None, if◌then◌else◌, ◌==◌}
 use Rattle.x86_types.specs.declared.operand.Reg.{Reg}
 use Rattle.x86_types.specs.declared.operand.Reg.TheVariants.{Eax}
 use Rattle.x86_types.specs.declared.operand.Rm.{Rm}

@@ -1,6 +1,6 @@
 -- What each row of the opcode map says of its bytes. The opcode is a number: 256 stands for 0F before
 -- the byte. Intel SDM volume 2, appendix A, tables A-2, A-3 and A-6.
-use Rattle.std.specs.Prelude.{ℕ, zero, suc, ◌+◌, ◌*◌, Bool, true, false, not, Option, Some, None, ◌==◌}
+use Rattle.std.specs.Prelude.{ℕ, ◌+◌, ◌*◌, Bool, true, false, not, ◌==◌}
 use Rattle.x86_types.specs.declared.operand.Reg.TheVariants as reg
 use Rattle.x86_types.specs.declared.width.Width.{Width}
 use Rattle.x86_types.specs.declared.width.Width.TheVariants.{One, Two, Four}

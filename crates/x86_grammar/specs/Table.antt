@@ -1,5 +1,5 @@
 -- What an opcode says, by the map, and which row of a group ModRM's middle field names.
-use Rattle.std.specs.Prelude.{ℕ, zero, suc, ◌/◌, ◌%◌, List, [], ◌∷◌, slice_index_or, Option, Some, None, Bool, true, false}
+use Rattle.std.specs.Prelude.{ℕ, zero, suc, ◌/◌, ◌%◌, [], slice_index_or, Option, Some, None, Bool, true}
 use Rattle.x86_types.specs.declared.operation.ShiftOp.{ShiftOp}
 use Rattle.x86_types.specs.Numbers.{shift_of}
 use Rattle.x86_grammar.specs.declared.row.Row.{Row}

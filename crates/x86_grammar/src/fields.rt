@@ -118,7 +118,12 @@ pub(crate) fn fields_fit(instr: Instr) -> bool
     ensures { result ≡ spec.fields_fit instr }
 {
     match instr {
-        Instr::Alu { op: _, width, to, from } => moves_fit(width, to, from),
+        Instr::Alu {
+            op: _,
+            width,
+            to,
+            from,
+        } => moves_fit(width, to, from),
         Instr::Test { width, left, right } => test_fits(width, left, right),
         Instr::Mov { width, to, from } => moves_fit(width, to, from),
         Instr::Lea { width, to: _, at } => is_wide(width) && address_fits(at),
@@ -131,26 +136,59 @@ pub(crate) fn fields_fit(instr: Instr) -> bool
         Instr::Div { width: _, from } => rm_fits(from),
         Instr::Idiv { width: _, from } => rm_fits(from),
         Instr::Imul { width, to: _, from } => is_wide(width) && rm_fits(from),
-        Instr::ImulBy { width, to: _, from, by } => {
-            is_wide(width) && (rm_fits(from) && number_fits(width, by))
-        }
-        Instr::Shift { op: _, width: _, to, count } => rm_fits(to) && count_fits(count),
+        Instr::ImulBy {
+            width,
+            to: _,
+            from,
+            by,
+        } => { is_wide(width) && (rm_fits(from) && number_fits(width, by)) }
+        Instr::Shift {
+            op: _,
+            width: _,
+            to,
+            count,
+        } => rm_fits(to) && count_fits(count),
         Instr::Shld { to, from: _, count } => rm_fits(to) && count_fits(count),
         Instr::Shrd { to, from: _, count } => rm_fits(to) && count_fits(count),
         Instr::Push { from } => push_fits(from),
         Instr::Pop { to } => rm_fits(to),
-        Instr::Xchg { width: _, left, right: _ } => rm_fits(left),
-        Instr::Movzx { wide, width, to: _, from } => widens(wide, width) && rm_fits(from),
-        Instr::Movsx { wide, width, to: _, from } => widens(wide, width) && rm_fits(from),
-        Instr::Cmov { cond: _, width, to: _, from } => is_wide(width) && rm_fits(from),
+        Instr::Xchg {
+            width: _,
+            left,
+            right: _,
+        } => rm_fits(left),
+        Instr::Movzx {
+            wide,
+            width,
+            to: _,
+            from,
+        } => widens(wide, width) && rm_fits(from),
+        Instr::Movsx {
+            wide,
+            width,
+            to: _,
+            from,
+        } => widens(wide, width) && rm_fits(from),
+        Instr::Cmov {
+            cond: _,
+            width,
+            to: _,
+            from,
+        } => is_wide(width) && rm_fits(from),
         Instr::Setcc { cond: _, to } => rm_fits(to),
         Instr::Extend { width } => is_wide(width),
         Instr::Spread { width } => is_wide(width),
         Instr::Bsf { width, to: _, from } => is_wide(width) && rm_fits(from),
         Instr::Bsr { width, to: _, from } => is_wide(width) && rm_fits(from),
         Instr::Bswap { to: _ } => true,
-        Instr::Movs { width: _, repeat: _ } => true,
-        Instr::Stos { width: _, repeat: _ } => true,
+        Instr::Movs {
+            width: _,
+            repeat: _,
+        } => true,
+        Instr::Stos {
+            width: _,
+            repeat: _,
+        } => true,
         Instr::Jmp { by } => number_fits(Width::Four, by),
         Instr::JmpTo { to } => rm_fits(to),
         Instr::CallTo { to } => rm_fits(to),

@@ -1,5 +1,8 @@
 ghost use Rattle.std.specs.Prelude.{◌≡◌, ◌<◌, ◌/◌, ◌%◌, slice_index_or, [], ◌∷◌};
-ghost use Rattle.x86_grammar.specs.Table.{entry_of};
+ghost use Rattle.std.specs.Prelude.{ℕ, true, Some};
+ghost use Rattle.x86_grammar.specs.declared.row.Row.{Row};
+ghost use Rattle.x86_grammar.specs.Table.{entry_of, row_at};
+ghost use Rattle.x86_grammar.specs.Rows.{key_of, middle_of, fits_middle};
 
 use crate::row::{Entry, Group, Row};
 use x86_types::{AluOp, Cond, Reg};
@@ -331,3 +334,10 @@ pub fn entry_at(key: u16) -> Entry
 {
     ENTRIES[key as usize / 8][key as usize % 8]
 }
+
+/// The map has each row at its opcode and middle field, and no other row there.
+pub fn opcode_map_is_right()
+    ensures right { (key n : ℕ) (r : Row) → key < 512 → n < 8 → row_at key n ≡ Some r →
+        (key_of r ≡ key) × (fits_middle (middle_of r) n ≡ true) }
+    ensures whole { (r : Row) (n : ℕ) → fits_middle (middle_of r) n ≡ true → row_at (key_of r) n ≡ Some r }
+{}

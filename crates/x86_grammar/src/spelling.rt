@@ -17,15 +17,11 @@ pub fn has_spelling(instr: &Instr) -> bool
 
 /// No spelling begins another, and none spells two instructions.
 pub fn no_spelling_begins_another()
-    ensures one {
-        (a b x y : List ℕ) (i j : Instr) → Spells a i → Spells b j →
-            a ++ x ≡ b ++ y → (a ≡ b) × (i ≡ j)
-    }
-{
-}
+    ensures one { (a b x y : List ℕ) (i j : Instr) → Spells a i → Spells b j →
+        a ++ x ≡ b ++ y → (a ≡ b) × (i ≡ j) }
+{}
 
 /// A spelling has at most 15 bytes.
 pub fn spelling_is_short()
     ensures short { (bytes : List ℕ) (i : Instr) → Spells bytes i → length bytes ≤ 15 }
-{
-}
+{}

@@ -141,7 +141,7 @@ def rust_enum():
 
 ROWS_HEAD = """-- What each row of the opcode map says of its bytes. The opcode is a number: 256 stands for 0F before
 -- the byte. Intel SDM volume 2, appendix A, tables A-2, A-3 and A-6.
-use Rattle.std.specs.Prelude.{ℕ, zero, suc, ◌+◌, ◌*◌, Bool, true, false, not, Option, Some, None, ◌==◌}
+use Rattle.std.specs.Prelude.{ℕ, ◌+◌, ◌*◌, Bool, true, false, not, ◌==◌}
 use Rattle.x86_types.specs.declared.operand.Reg.TheVariants as reg
 use Rattle.x86_types.specs.declared.width.Width.{Width}
 use Rattle.x86_types.specs.declared.width.Width.TheVariants.{One, Two, Four}
@@ -206,7 +206,7 @@ def rows_spec():
 
 MEANING_HEAD = """-- What the parts of a spelling mean: the row, whether 66 makes width Two, whether F3 stands, ModRM's
 -- middle field, its operand, and the number at the end.
-use Rattle.std.specs.Prelude.{ℕ, Bool, true, false, Option, Some, None, if◌then◌else◌, ◌==◌}
+use Rattle.std.specs.Prelude.{ℕ, Bool, true, Option, Some, None, if◌then◌else◌, ◌==◌}
 use Rattle.x86_types.specs.declared.operand.Reg.{Reg}
 use Rattle.x86_types.specs.declared.operand.Reg.TheVariants.{Eax}
 use Rattle.x86_types.specs.declared.operand.Rm.{Rm}
@@ -247,7 +247,7 @@ def meaning_spec():
 
 
 AGAIN_HEAD = """-- The map gives each row at its opcode.
-use Rattle.std.proofs.Common.{◌≡◌, ℕ, zero, suc, Option, Some, None, Bool, true, false, eqb, refl, sym}
+use Rattle.std.proofs.Common.{◌≡◌, ℕ, Some, true, false, refl}
 use Rattle.std.proofs.lemmas.Bool.{eqb-true, false≢true}
 use Rattle.x86_types.specs.declared.operand.Reg.TheVariants as reg
 use Rattle.x86_types.specs.declared.operation.AluOp.TheVariants as alu
