@@ -1,4 +1,5 @@
 pub mod Again
+pub mod Among
 pub mod Fit
 pub mod LittleEndian
 pub mod Map
