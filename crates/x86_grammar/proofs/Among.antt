@@ -106,6 +106,8 @@ module _ (r : Row) (h p : Bool) (n : ℕ) (m : Rm) (v : ℕ) (i j : Instr) where
   by_built : Some j ≡ Some i → In (form_of r h p n m v) (forms j) → In (form_of r h p n m v) (forms i)
   by_built e x = subst (λ (k : Instr). In (form_of r h p n m v) (forms k)) (some_is j i e) x
 
+-- ---- the rows, by tools/among.py
+
 AluToRm_has : (op : AluOp) (f : Bool) → HasForm (row.AluToRm op f)
 unfolding HasForm
 AluToRm_has op f h p n m v i x e = by_built _ h p n m v i _ e (inl (sized_form (row.AluToRm op) f h p _ _ _ _ _ x.suits.half x.suits.rep (sym (reg_again n x.middle)) (no_number v x.number)))
@@ -397,7 +399,7 @@ Ret_has h true n m v i x e = by_built _ h true n m v i _ e (inr (inr (inl (same_
 
 RetDrop_has : HasForm row.RetDrop
 unfolding HasForm
-RetDrop_has h p n m zero i x e = by_built _ h p n m 0 i _ e (inl (fixed_form _ h p _ _ _ _ _ x.suits.half x.suits.rep (x.known refl) refl))
+RetDrop_has h p n m zero i x e = by_built _ h p n m zero i _ e (inl (fixed_form _ h p _ _ _ _ _ x.suits.half x.suits.rep (x.known refl) refl))
 RetDrop_has h p n m (suc v) i x e = by_built _ h p n m (suc v) i _ e (inl (fixed_form _ h p _ _ _ _ _ x.suits.half x.suits.rep (x.known refl) refl))
 
 Leave_has : HasForm row.Leave
@@ -506,6 +508,8 @@ has_form row.Cld = Cld_has
 has_form row.Nop = Nop_has
 has_form row.NopLong = NopLong_has
 has_form row.NopEnd = NopEnd_has
+
+-- ---- the end of the rows
 
 pub in_forms : (r : Row) (h p : Bool) (n : ℕ) (m : Rm) (v : ℕ) (i : Instr) → Parts r h p n v → build r h p n m v ≡ Some i → In (form_of r h p n m v) (forms i)
 unfolding HasForm

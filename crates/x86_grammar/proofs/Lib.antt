@@ -1,5 +1,6 @@
 pub mod Again
 pub mod Among
+pub mod Bytes
 pub mod Fit
 pub mod LittleEndian
 pub mod Map

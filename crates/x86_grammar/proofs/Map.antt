@@ -71,7 +71,7 @@ escape_entry : (b : ℕ) → eqb b 15 ≡ true → entry_of b ≡ entry.Nothing
 unfolding entry_of
 escape_entry b h = rw (eqb-true b 15 h) refl
 
-nothing_there : (e : Entry) (n : ℕ) (r : Row) → row_in e n ≡ Some r → e ≡ entry.Nothing → ⊥
+pub nothing_there : (e : Entry) (n : ℕ) (r : Row) → row_in e n ≡ Some r → e ≡ entry.Nothing → ⊥
 nothing_there entry.Nothing n r h z = absurd cc
 nothing_there (entry.One q) n r h z = absurd cc
 nothing_there (entry.By g) n r h z = absurd cc

@@ -92,7 +92,7 @@ spelled ps f o i among rm h =
       short = leb-true _ _ (and_right (ltb f.imm (256 ^ imm_size f.row f.half)) _ h5);
     }
 
--- Alu
+-- ---- what is spelled, by tools/worked.py
 
 -- 00 C8
 spelled_0 : Spells (0 ∷ 200 ∷ []) (instr.Alu alu.Add One (rm.Reg reg.Eax) (src.Reg reg.Ecx))
@@ -110,8 +110,6 @@ spelled_2 = spelled ([]) _ (operand 12 36 0) _ (inl refl) refl refl
 spelled_3 : Spells (61 ∷ 120 ∷ 86 ∷ 52 ∷ 18 ∷ []) (instr.Alu alu.Cmp Four (rm.Reg reg.Eax) (src.Imm 305419896))
 spelled_3 = spelled ([]) _ (operand 0 0 0) _ (inr (inl refl)) tt refl
 
--- Test
-
 -- 85 C0
 spelled_4 : Spells (133 ∷ 192 ∷ []) (instr.Test Four (rm.Reg reg.Eax) (src.Reg reg.Eax))
 spelled_4 = spelled ([]) _ (operand 192 0 0) _ (inl refl) refl refl
@@ -123,8 +121,6 @@ spelled_5 = spelled ([]) _ (operand 0 0 0) _ (inr (inl refl)) tt refl
 -- 66 F7 45 FC 34 12
 spelled_6 : Spells (102 ∷ 247 ∷ 69 ∷ 252 ∷ 52 ∷ 18 ∷ []) (instr.Test Two (rm.Mem (at (Some reg.Ebp) None 1 4294967292)) (src.Imm 4660))
 spelled_6 = spelled (102 ∷ []) _ (operand 69 0 252) _ (inl refl) refl refl
-
--- Mov
 
 -- B8 01 00 00 00
 spelled_7 : Spells (184 ∷ 1 ∷ 0 ∷ 0 ∷ 0 ∷ []) (instr.Mov Four (rm.Reg reg.Eax) (src.Imm 1))
@@ -142,8 +138,6 @@ spelled_9 = spelled ([]) _ (operand 0 0 0) _ (inr (inl refl)) tt refl
 spelled_10 : Spells (102 ∷ 163 ∷ 0 ∷ 160 ∷ 4 ∷ 8 ∷ []) (instr.Mov Two (rm.Mem (at None None 1 134520832)) (src.Reg reg.Eax))
 spelled_10 = spelled (102 ∷ []) _ (operand 0 0 0) _ (inr (inl refl)) tt refl
 
--- Lea
-
 -- 8D 04 8D 00 00 00 00
 spelled_11 : Spells (141 ∷ 4 ∷ 141 ∷ 0 ∷ 0 ∷ 0 ∷ 0 ∷ []) (instr.Lea Four reg.Eax (at None (Some reg.Ecx) 4 0))
 spelled_11 = spelled ([]) _ (operand 4 141 0) _ (inl refl) refl refl
@@ -151,8 +145,6 @@ spelled_11 = spelled ([]) _ (operand 4 141 0) _ (inl refl) refl refl
 -- 2E 66 2E 8D 41 01
 spelled_12 : Spells (46 ∷ 102 ∷ 46 ∷ 141 ∷ 65 ∷ 1 ∷ []) (instr.Lea Two reg.Eax (at (Some reg.Ecx) None 1 1))
 spelled_12 = spelled (46 ∷ 102 ∷ 46 ∷ []) _ (operand 65 0 1) _ (inl refl) refl refl
-
--- Inc, Dec
 
 -- 40
 spelled_13 : Spells (64 ∷ []) (instr.Inc Four (rm.Reg reg.Eax))
@@ -170,8 +162,6 @@ spelled_15 = spelled (102 ∷ []) _ (operand 0 0 0) _ (inr (inl refl)) tt refl
 spelled_16 : Spells (255 ∷ 13 ∷ 0 ∷ 0 ∷ 0 ∷ 16 ∷ []) (instr.Dec Four (rm.Mem (at None None 1 268435456)))
 spelled_16 = spelled ([]) _ (operand 13 0 268435456) _ (inl refl) refl refl
 
--- Not, Neg
-
 -- F6 D4
 spelled_17 : Spells (246 ∷ 212 ∷ []) (instr.Not One (rm.Reg reg.Esp))
 spelled_17 = spelled ([]) _ (operand 212 0 0) _ (inl refl) refl refl
@@ -187,8 +177,6 @@ spelled_19 = spelled ([]) _ (operand 216 0 0) _ (inl refl) refl refl
 -- F6 18
 spelled_20 : Spells (246 ∷ 24 ∷ []) (instr.Neg One (rm.Mem (at (Some reg.Eax) None 1 0)))
 spelled_20 = spelled ([]) _ (operand 24 0 0) _ (inl refl) refl refl
-
--- Mul, ImulWide, Div, Idiv
 
 -- F7 E1
 spelled_21 : Spells (247 ∷ 225 ∷ []) (instr.Mul Four (rm.Reg reg.Ecx))
@@ -206,8 +194,6 @@ spelled_23 = spelled ([]) _ (operand 241 0 0) _ (inl refl) refl refl
 spelled_24 : Spells (247 ∷ 249 ∷ []) (instr.Idiv Four (rm.Reg reg.Ecx))
 spelled_24 = spelled ([]) _ (operand 249 0 0) _ (inl refl) refl refl
 
--- Imul
-
 -- 0F AF C1
 spelled_25 : Spells (15 ∷ 175 ∷ 193 ∷ []) (instr.Imul Four reg.Eax (rm.Reg reg.Ecx))
 spelled_25 = spelled ([]) _ (operand 193 0 0) _ (inl refl) refl refl
@@ -216,8 +202,6 @@ spelled_25 = spelled ([]) _ (operand 193 0 0) _ (inl refl) refl refl
 spelled_26 : Spells (102 ∷ 15 ∷ 175 ∷ 1 ∷ []) (instr.Imul Two reg.Eax (rm.Mem (at (Some reg.Ecx) None 1 0)))
 spelled_26 = spelled (102 ∷ []) _ (operand 1 0 0) _ (inl refl) refl refl
 
--- ImulBy
-
 -- 69 C1 E8 03 00 00
 spelled_27 : Spells (105 ∷ 193 ∷ 232 ∷ 3 ∷ 0 ∷ 0 ∷ []) (instr.ImulBy Four reg.Eax (rm.Reg reg.Ecx) 1000)
 spelled_27 = spelled ([]) _ (operand 193 0 0) _ (inl refl) refl refl
@@ -225,8 +209,6 @@ spelled_27 = spelled ([]) _ (operand 193 0 0) _ (inl refl) refl refl
 -- 66 6B C1 80
 spelled_28 : Spells (102 ∷ 107 ∷ 193 ∷ 128 ∷ []) (instr.ImulBy Two reg.Eax (rm.Reg reg.Ecx) 65408)
 spelled_28 = spelled (102 ∷ []) _ (operand 193 0 0) _ (inr (inl refl)) refl refl
-
--- Shift
 
 -- C1 E0 05
 spelled_29 : Spells (193 ∷ 224 ∷ 5 ∷ []) (instr.Shift shift.Shl Four (rm.Reg reg.Eax) (count.Imm 5))
@@ -239,8 +221,6 @@ spelled_30 = spelled (102 ∷ []) _ (operand 248 0 0) _ (inr (inl refl)) refl re
 -- D2 C8
 spelled_31 : Spells (210 ∷ 200 ∷ []) (instr.Shift shift.Ror One (rm.Reg reg.Eax) count.Cl)
 spelled_31 = spelled ([]) _ (operand 200 0 0) _ (inl refl) refl refl
-
--- Shld, Shrd
 
 -- 0F A4 C8 03
 spelled_32 : Spells (15 ∷ 164 ∷ 200 ∷ 3 ∷ []) (instr.Shld (rm.Reg reg.Eax) reg.Ecx (count.Imm 3))
@@ -258,8 +238,6 @@ spelled_34 = spelled ([]) _ (operand 200 0 0) _ (inl refl) refl refl
 spelled_35 : Spells (15 ∷ 173 ∷ 200 ∷ []) (instr.Shrd (rm.Reg reg.Eax) reg.Ecx count.Cl)
 spelled_35 = spelled ([]) _ (operand 200 0 0) _ (inl refl) refl refl
 
--- Push
-
 -- 55
 spelled_36 : Spells (85 ∷ []) (instr.Push (src.Reg reg.Ebp))
 spelled_36 = spelled ([]) _ (operand 0 0 0) _ (inr (inl refl)) tt refl
@@ -272,8 +250,6 @@ spelled_37 = spelled ([]) _ (operand 0 0 0) _ (inr (inl refl)) tt refl
 spelled_38 : Spells (255 ∷ 116 ∷ 36 ∷ 8 ∷ []) (instr.Push (src.Mem (at (Some reg.Esp) None 1 8)))
 spelled_38 = spelled ([]) _ (operand 116 36 8) _ (inl refl) refl refl
 
--- Pop
-
 -- 5D
 spelled_39 : Spells (93 ∷ []) (instr.Pop (rm.Reg reg.Ebp))
 spelled_39 = spelled ([]) _ (operand 0 0 0) _ (inr (inl refl)) tt refl
@@ -282,8 +258,6 @@ spelled_39 = spelled ([]) _ (operand 0 0 0) _ (inr (inl refl)) tt refl
 spelled_40 : Spells (143 ∷ 0 ∷ []) (instr.Pop (rm.Mem (at (Some reg.Eax) None 1 0)))
 spelled_40 = spelled ([]) _ (operand 0 0 0) _ (inl refl) refl refl
 
--- Xchg
-
 -- 87 C8
 spelled_41 : Spells (135 ∷ 200 ∷ []) (instr.Xchg Four (rm.Reg reg.Eax) reg.Ecx)
 spelled_41 = spelled ([]) _ (operand 200 0 0) _ (inl refl) refl refl
@@ -291,8 +265,6 @@ spelled_41 = spelled ([]) _ (operand 200 0 0) _ (inl refl) refl refl
 -- 66 97
 spelled_42 : Spells (102 ∷ 151 ∷ []) (instr.Xchg Two (rm.Reg reg.Eax) reg.Edi)
 spelled_42 = spelled (102 ∷ []) _ (operand 0 0 0) _ (inr (inl refl)) tt refl
-
--- Movzx, Movsx
 
 -- 0F B6 C1
 spelled_43 : Spells (15 ∷ 182 ∷ 193 ∷ []) (instr.Movzx Four One reg.Eax (rm.Reg reg.Ecx))
@@ -310,8 +282,6 @@ spelled_45 = spelled (102 ∷ []) _ (operand 193 0 0) _ (inl refl) refl refl
 spelled_46 : Spells (15 ∷ 191 ∷ 0 ∷ []) (instr.Movsx Four Two reg.Eax (rm.Mem (at (Some reg.Eax) None 1 0)))
 spelled_46 = spelled ([]) _ (operand 0 0 0) _ (inl refl) refl refl
 
--- Cmov
-
 -- 0F 44 C1
 spelled_47 : Spells (15 ∷ 68 ∷ 193 ∷ []) (instr.Cmov cond.E Four reg.Eax (rm.Reg reg.Ecx))
 spelled_47 = spelled ([]) _ (operand 193 0 0) _ (inl refl) refl refl
@@ -320,8 +290,6 @@ spelled_47 = spelled ([]) _ (operand 193 0 0) _ (inl refl) refl refl
 spelled_48 : Spells (102 ∷ 15 ∷ 79 ∷ 193 ∷ []) (instr.Cmov cond.G Two reg.Eax (rm.Reg reg.Ecx))
 spelled_48 = spelled (102 ∷ []) _ (operand 193 0 0) _ (inl refl) refl refl
 
--- Setcc
-
 -- 0F 94 C0
 spelled_49 : Spells (15 ∷ 148 ∷ 192 ∷ []) (instr.Setcc cond.E (rm.Reg reg.Eax))
 spelled_49 = spelled ([]) _ (operand 192 0 0) _ (inl refl) refl refl
@@ -329,8 +297,6 @@ spelled_49 = spelled ([]) _ (operand 192 0 0) _ (inl refl) refl refl
 -- 0F 92 04 24
 spelled_50 : Spells (15 ∷ 146 ∷ 4 ∷ 36 ∷ []) (instr.Setcc cond.B (rm.Mem (at (Some reg.Esp) None 1 0)))
 spelled_50 = spelled ([]) _ (operand 4 36 0) _ (inl refl) refl refl
-
--- Extend, Spread
 
 -- 66 98
 spelled_51 : Spells (102 ∷ 152 ∷ []) (instr.Extend Two)
@@ -348,8 +314,6 @@ spelled_53 = spelled (102 ∷ []) _ (operand 0 0 0) _ (inl refl) tt refl
 spelled_54 : Spells (153 ∷ []) (instr.Spread Four)
 spelled_54 = spelled ([]) _ (operand 0 0 0) _ (inl refl) tt refl
 
--- Bsf, Bsr
-
 -- 0F BC C1
 spelled_55 : Spells (15 ∷ 188 ∷ 193 ∷ []) (instr.Bsf Four reg.Eax (rm.Reg reg.Ecx))
 spelled_55 = spelled ([]) _ (operand 193 0 0) _ (inl refl) refl refl
@@ -358,8 +322,6 @@ spelled_55 = spelled ([]) _ (operand 193 0 0) _ (inl refl) refl refl
 spelled_56 : Spells (102 ∷ 15 ∷ 189 ∷ 193 ∷ []) (instr.Bsr Two reg.Eax (rm.Reg reg.Ecx))
 spelled_56 = spelled (102 ∷ []) _ (operand 193 0 0) _ (inl refl) refl refl
 
--- Bswap
-
 -- 0F C8
 spelled_57 : Spells (15 ∷ 200 ∷ []) (instr.Bswap reg.Eax)
 spelled_57 = spelled ([]) _ (operand 0 0 0) _ (inl refl) tt refl
@@ -367,8 +329,6 @@ spelled_57 = spelled ([]) _ (operand 0 0 0) _ (inl refl) tt refl
 -- 0F CF
 spelled_58 : Spells (15 ∷ 207 ∷ []) (instr.Bswap reg.Edi)
 spelled_58 = spelled ([]) _ (operand 0 0 0) _ (inl refl) tt refl
-
--- Movs, Stos
 
 -- F3 66 A5
 spelled_59 : Spells (243 ∷ 102 ∷ 165 ∷ []) (instr.Movs Two true)
@@ -386,8 +346,6 @@ spelled_61 = spelled ([]) _ (operand 0 0 0) _ (inl refl) tt refl
 spelled_62 : Spells (243 ∷ 171 ∷ []) (instr.Stos Four true)
 spelled_62 = spelled (243 ∷ []) _ (operand 0 0 0) _ (inl refl) tt refl
 
--- Jmp
-
 -- EB FE
 spelled_63 : Spells (235 ∷ 254 ∷ []) (instr.Jmp 4294967294)
 spelled_63 = spelled ([]) _ (operand 0 0 0) _ (inr (inl refl)) tt refl
@@ -395,8 +353,6 @@ spelled_63 = spelled ([]) _ (operand 0 0 0) _ (inr (inl refl)) tt refl
 -- E9 00 01 00 00
 spelled_64 : Spells (233 ∷ 0 ∷ 1 ∷ 0 ∷ 0 ∷ []) (instr.Jmp 256)
 spelled_64 = spelled ([]) _ (operand 0 0 0) _ (inl refl) tt refl
-
--- JmpTo, CallTo
 
 -- 3E FF E0
 spelled_65 : Spells (62 ∷ 255 ∷ 224 ∷ []) (instr.JmpTo (rm.Reg reg.Eax))
@@ -410,8 +366,6 @@ spelled_66 = spelled ([]) _ (operand 36 133 134516820) _ (inl refl) refl refl
 spelled_67 : Spells (255 ∷ 208 ∷ []) (instr.CallTo (rm.Reg reg.Eax))
 spelled_67 = spelled ([]) _ (operand 208 0 0) _ (inl refl) refl refl
 
--- Jcc
-
 -- 77 23
 spelled_68 : Spells (119 ∷ 35 ∷ []) (instr.Jcc cond.A 35)
 spelled_68 = spelled ([]) _ (operand 0 0 0) _ (inr (inl refl)) tt refl
@@ -420,8 +374,6 @@ spelled_68 = spelled ([]) _ (operand 0 0 0) _ (inr (inl refl)) tt refl
 spelled_69 : Spells (15 ∷ 132 ∷ 250 ∷ 255 ∷ 255 ∷ 255 ∷ []) (instr.Jcc cond.E 4294967290)
 spelled_69 = spelled ([]) _ (operand 0 0 0) _ (inl refl) tt refl
 
--- Call
-
 -- E8 10 00 00 00
 spelled_70 : Spells (232 ∷ 16 ∷ 0 ∷ 0 ∷ 0 ∷ []) (instr.Call 16)
 spelled_70 = spelled ([]) _ (operand 0 0 0) _ (inl refl) tt refl
@@ -429,8 +381,6 @@ spelled_70 = spelled ([]) _ (operand 0 0 0) _ (inl refl) tt refl
 -- E8 FA FF FF FF
 spelled_71 : Spells (232 ∷ 250 ∷ 255 ∷ 255 ∷ 255 ∷ []) (instr.Call 4294967290)
 spelled_71 = spelled ([]) _ (operand 0 0 0) _ (inl refl) tt refl
-
--- Ret
 
 -- C3
 spelled_72 : Spells (195 ∷ []) (instr.Ret 0)
@@ -444,8 +394,6 @@ spelled_73 = spelled (243 ∷ []) _ (operand 0 0 0) _ (inr (inr (inl refl))) tt 
 spelled_74 : Spells (194 ∷ 8 ∷ 0 ∷ []) (instr.Ret 8)
 spelled_74 = spelled ([]) _ (operand 0 0 0) _ (inl refl) tt refl
 
--- Leave, Int80, Cld
-
 -- C9
 spelled_75 : Spells (201 ∷ []) (instr.Leave)
 spelled_75 = spelled ([]) _ (operand 0 0 0) _ (inl refl) tt refl
@@ -457,8 +405,6 @@ spelled_76 = spelled ([]) _ (operand 0 0 0) _ (inl refl) tt refl
 -- FC
 spelled_77 : Spells (252 ∷ []) (instr.Cld)
 spelled_77 = spelled ([]) _ (operand 0 0 0) _ (inl refl) tt refl
-
--- Nop
 
 -- 66 66 90
 spelled_78 : Spells (102 ∷ 102 ∷ 144 ∷ []) (instr.Nop)
@@ -472,7 +418,7 @@ spelled_79 = spelled (102 ∷ 102 ∷ 46 ∷ []) _ (operand 132 0 0) _ (inr (inl
 spelled_80 : Spells (243 ∷ 15 ∷ 30 ∷ 251 ∷ []) (instr.Nop)
 spelled_80 = spelled (243 ∷ []) _ (operand 0 0 0) _ (inr (inr (inl refl))) tt refl
 
--- ---- what spells nothing
+-- ---- reading in vain
 
 never_found : (i : Instr) (x : List ℕ) → Never ≡ Found i x → ⊥
 never_found i x e = cc
@@ -483,6 +429,8 @@ append_none (b ∷ t) = ap (λ (y : List ℕ). b ∷ y) (append_none t)
 
 none_spelled : (t : List ℕ) → read t ≡ Never → (i : Instr) → Spells t i → ⊥
 none_spelled t h i s = never_found i [] (sym h ∙ ap read (sym (append_none t)) ∙ spells_whole t i s [])
+
+-- ---- what spells nothing, by tools/worked.py
 
 -- 82 C0 01: opcode 82
 nothing_0 : (i : Instr) → Spells (130 ∷ 192 ∷ 1 ∷ []) i → ⊥
@@ -504,7 +452,7 @@ nothing_3 : (i : Instr) → Spells (193 ∷ 208 ∷ 1 ∷ []) i → ⊥
 unfolding entry_of numbers sib_at after_m m_at after_opcode after_escape at_opcode read_from
 nothing_3 = none_spelled (193 ∷ 208 ∷ 1 ∷ []) refl
 
--- D1 D8: /3
+-- D1 D8: a rotate through carry, /3
 nothing_4 : (i : Instr) → Spells (209 ∷ 216 ∷ []) i → ⊥
 unfolding entry_of numbers sib_at after_m m_at after_opcode after_escape at_opcode read_from
 nothing_4 = none_spelled (209 ∷ 216 ∷ []) refl
@@ -573,3 +521,5 @@ nothing_16 = none_spelled (46 ∷ 144 ∷ []) refl
 nothing_17 : (i : Instr) → Spells (243 ∷ 243 ∷ 164 ∷ []) i → ⊥
 unfolding entry_of numbers sib_at after_m m_at after_opcode after_escape at_opcode read_from
 nothing_17 = none_spelled (243 ∷ 243 ∷ 164 ∷ []) refl
+
+-- ---- the end of the rows

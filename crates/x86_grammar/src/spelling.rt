@@ -1,7 +1,8 @@
 ghost use Rattle.std.specs.Prelude.{◌≡◌, ◌++◌, ◌≤◌, ◌<◌, ◌↔◌, List, ℕ, length, true, Some};
 ghost use Rattle.x86_types.specs.declared.instr.Instr.{Instr};
 ghost use Rattle.x86_grammar.specs.Spells.{Spells};
-ghost use Rattle.x86_grammar.specs.Fields.{HasSpelling};
+ghost use Rattle.std.specs.List.{AllByRecursion};
+ghost use Rattle.x86_grammar.specs.Fields.{HasSpelling, fields_fit};
 
 use crate::fields::fields_fit;
 use x86_types::Instr;
@@ -21,7 +22,14 @@ pub fn no_spelling_begins_another()
         a ++ x ≡ b ++ y → (a ≡ b) × (i ≡ j) }
 {}
 
-/// A spelling has at most 15 bytes.
+/// A spelling is a list of 1 to 15 bytes.
 pub fn spelling_is_short()
     ensures short { (bytes : List ℕ) (i : Instr) → Spells bytes i → length bytes ≤ 15 }
+    ensures some { (bytes : List ℕ) (i : Instr) → Spells bytes i → 0 < length bytes }
+    ensures bytes { (bytes : List ℕ) (i : Instr) → Spells bytes i → AllByRecursion (λ b. b < 256) bytes }
+{}
+
+/// An instruction has a spelling exactly where its fields are in the ranges of its forms.
+pub fn spelled_fields_fit()
+    ensures fields { (i : Instr) → (fields_fit i ≡ true) ↔ HasSpelling i }
 {}
