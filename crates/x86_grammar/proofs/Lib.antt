@@ -1,0 +1,10 @@
+pub mod Again
+pub mod Among
+pub mod Bytes
+pub mod Fit
+pub mod LittleEndian
+pub mod Map
+pub mod Means
+pub mod Operands
+pub mod Whole
+pub mod Worked

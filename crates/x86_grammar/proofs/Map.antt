@@ -1,0 +1,142 @@
+-- What the map says at each opcode is right, and no row stands at a prefix or at 0F.
+use Rattle.std.proofs.Common.{◌≡◌, ℕ, zero, suc, ◌<◌, Option, Some, None, Bool, true, false, ◌&&◌, ◌||◌, eqb, subst, refl, arith, inl, inr, ◌⊎◌}
+use Rattle.std.proofs.lemmas.Bool.{agree_below, agree_below_at, eqb-true, false≢true, cases_lt}
+use Rattle.x86_types.specs.declared.operation.ShiftOp.{ShiftOp}
+use Rattle.x86_grammar.specs.declared.row.Row.{Row}
+use Rattle.x86_grammar.specs.declared.row.Group.{Group}
+use Rattle.x86_grammar.specs.declared.row.Group.TheVariants as group
+use Rattle.x86_grammar.specs.declared.row.Entry.{Entry}
+use Rattle.x86_grammar.specs.declared.row.Entry.TheVariants as entry
+use Rattle.x86_grammar.specs.Table.{entry_of, member_of, row_in, row_at, shift_row, first_row, unit_row, step_row}
+use Rattle.x86_grammar.specs.Rows.{key_of, middle_of, fits_middle, has_operand}
+use Rattle.x86_grammar.specs.Spells.{is_prefix}
+
+pub and_left : (a b : Bool) → (a && b) ≡ true → a ≡ true
+and_left true b e = refl
+and_left false b e = absurd (false≢true e)
+
+pub and_right : (a b : Bool) → (a && b) ≡ true → b ≡ true
+and_right true b e = e
+and_right false b e = absurd (false≢true e)
+
+pub or_cases : (a b : Bool) → (a || b) ≡ true → (a ≡ true) ⊎ (b ≡ true)
+or_cases true b h = inl refl
+or_cases false b h = inr h
+
+-- ---- each row that is found stands at its opcode
+
+abbrev right : ℕ → ℕ → Option Row → Bool
+right key n None = true
+right key n (Some r) = eqb (key_of r) key && fits_middle (middle_of r) n
+
+abbrev right_below : ℕ → ℕ → Bool
+right_below key zero = true
+right_below key (suc n) = right key n (row_at key n) && right_below key n
+
+map_right : agree_below (λ key. right_below key 8) (λ key. true) 512 ≡ true
+unfolding entry_of
+map_right = refl
+
+right_at : (key n : ℕ) (k : ℕ) → right_below key k ≡ true → n < k → right key n (row_at key n) ≡ true
+right_at key n zero h lt = absurd (omega arith)
+right_at key n (suc k) h lt =
+    elim (cases_lt n k) [
+      | inl l ↦ right_at key n k (and_right (right key k (row_at key k)) (right_below key k) h) l
+      | inr g ↦ let e : k ≡ n = omega arith in subst (λ (x : ℕ). right key x (row_at key x) ≡ true) e (and_left (right key k (row_at key k)) (right_below key k) h)
+    ]
+
+pub row_right : (key n : ℕ) (r : Row) → key < 512 → n < 8 → row_at key n ≡ Some r → (key_of r ≡ key) × (fits_middle (middle_of r) n ≡ true)
+row_right key n r lk ln e =
+    let t = agree_below_at (λ key. right_below key 8) (λ key. true) 512 key map_right lk in
+    let x : right key n (Some r) ≡ true = rw e at (right_at key n 8 t ln) in
+    (eqb-true _ _ (and_left (eqb (key_of r) key) (fits_middle (middle_of r) n) x), and_right (eqb (key_of r) key) (fits_middle (middle_of r) n) x)
+
+-- ---- nothing stands at a prefix or at 0F
+
+prefix_entry : (b : ℕ) → is_prefix b ≡ true → entry_of b ≡ entry.Nothing
+unfolding entry_of
+prefix_entry b h =
+    elim (or_cases (eqb b 102 || eqb b 46 || eqb b 62) (eqb b 243) h) [
+      | inr e ↦ rw (eqb-true b 243 e) refl
+      | inl k ↦ elim (or_cases (eqb b 102 || eqb b 46) (eqb b 62) k) [
+        | inr e ↦ rw (eqb-true b 62 e) refl
+        | inl l ↦ elim (or_cases (eqb b 102) (eqb b 46) l) [
+          | inl e ↦ rw (eqb-true b 102 e) refl
+          | inr e ↦ rw (eqb-true b 46 e) refl
+        ]
+      ]
+    ]
+
+escape_entry : (b : ℕ) → eqb b 15 ≡ true → entry_of b ≡ entry.Nothing
+unfolding entry_of
+escape_entry b h = rw (eqb-true b 15 h) refl
+
+pub nothing_there : (e : Entry) (n : ℕ) (r : Row) → row_in e n ≡ Some r → e ≡ entry.Nothing → ⊥
+nothing_there entry.Nothing n r h z = absurd cc
+nothing_there (entry.One q) n r h z = absurd cc
+nothing_there (entry.By g) n r h z = absurd cc
+
+is_false : (b : Bool) → (b ≡ true → ⊥) → b ≡ false
+is_false true h = absurd (h refl)
+is_false false h = refl
+
+pub no_prefix : (r : Row) (n : ℕ) → row_at (key_of r) n ≡ Some r → is_prefix (key_of r) ≡ false
+no_prefix r n e = is_false _ (λ h. nothing_there _ n r e (prefix_entry (key_of r) h))
+
+pub no_escape : (r : Row) (n : ℕ) → row_at (key_of r) n ≡ Some r → eqb (key_of r) 15 ≡ false
+no_escape r n e = is_false _ (λ h. nothing_there _ n r e (escape_entry (key_of r) h))
+
+-- ---- each member of a group has ModRM
+
+pub some_row : (q r : Row) → Some q ≡ Some r → q ≡ r
+some_row q r h = cc
+
+pub none_row : (r : Row) → None ≡ Some r → ⊥
+none_row r h = cc
+
+abbrev has : Row → Type 0
+has r = has_operand r ≡ true
+
+it_has : (q r : Row) → has q → Some q ≡ Some r → has r
+it_has q r h e = subst has (some_row q r e) h
+
+first_has : (q r : Row) (n : ℕ) → has q → first_row q n ≡ Some r → has r
+first_has q r zero h e = it_has q r h e
+first_has q r (suc n) h e = absurd (none_row r e)
+
+shift_has : (o : Option ShiftOp) (f : ShiftOp → Row) (r : Row) → ((op : ShiftOp) → has (f op)) → shift_row o f ≡ Some r → has r
+shift_has None f r h e = absurd (none_row r e)
+shift_has (Some op) f r h e = it_has (f op) r (h op) e
+
+unit_has : (f : Bool) (n : ℕ) (r : Row) → unit_row f n ≡ Some r → has r
+unit_has f zero r e = it_has _ r refl e
+unit_has f (suc zero) r e = absurd (none_row r e)
+unit_has f (suc (suc zero)) r e = it_has _ r refl e
+unit_has f (suc (suc (suc zero))) r e = it_has _ r refl e
+unit_has f (suc (suc (suc (suc zero)))) r e = it_has _ r refl e
+unit_has f (suc (suc (suc (suc (suc zero))))) r e = it_has _ r refl e
+unit_has f (suc (suc (suc (suc (suc (suc zero)))))) r e = it_has _ r refl e
+unit_has f (suc (suc (suc (suc (suc (suc (suc zero))))))) r e = it_has _ r refl e
+unit_has f (suc (suc (suc (suc (suc (suc (suc (suc n)))))))) r e = absurd (none_row r e)
+
+step_has : (f : Bool) (n : ℕ) (r : Row) → step_row f n ≡ Some r → has r
+step_has f zero r e = it_has _ r refl e
+step_has f (suc zero) r e = it_has _ r refl e
+step_has true (suc (suc zero)) r e = it_has _ r refl e
+step_has true (suc (suc (suc zero))) r e = absurd (none_row r e)
+step_has true (suc (suc (suc (suc zero)))) r e = it_has _ r refl e
+step_has true (suc (suc (suc (suc (suc zero))))) r e = absurd (none_row r e)
+step_has true (suc (suc (suc (suc (suc (suc zero)))))) r e = it_has _ r refl e
+step_has true (suc (suc (suc (suc (suc (suc (suc n))))))) r e = absurd (none_row r e)
+step_has false (suc (suc n)) r e = absurd (none_row r e)
+
+pub members_have : (g : Group) (n : ℕ) (r : Row) → member_of g n ≡ Some r → has_operand r ≡ true
+members_have group.Pops n r e = first_has _ r n refl e
+members_have (group.Moves f) n r e = first_has _ r n refl e
+members_have (group.Units f) n r e = unit_has f n r e
+members_have (group.Steps f) n r e = step_has f n r e
+members_have (group.ShiftsImm f) n r e = shift_has _ _ r (λ op. refl) e
+members_have (group.ShiftsOne f) n r e = shift_has _ _ r (λ op. refl) e
+members_have (group.ShiftsCl f) n r e = shift_has _ _ r (λ op. refl) e
+members_have (group.Sets c) n r e = first_has _ r n refl e
+members_have group.Nops n r e = first_has _ r n refl e

@@ -1,0 +1,7 @@
+pub mod Fields
+pub mod Forms
+pub mod Meaning
+pub mod Operand
+pub mod Rows
+pub mod Spells
+pub mod Table

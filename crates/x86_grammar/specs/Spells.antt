@@ -1,0 +1,77 @@
+-- Which bytes spell an instruction.
+use Rattle.std.specs.Prelude.{◌≡◌, ℕ, ◌+◌, ◌-◌, ◌/◌, ◌%◌, ◌^◌, ◌<◌, ◌≤◌, Bool, true, false, ◌&&◌, ◌||◌, nat_lt, ◌==◌, if◌then◌else◌, List, [], ◌∷◌, ◌++◌, length, IfSome}
+use Rattle.std.specs.List.{AllByRecursion}
+use Rattle.x86_types.specs.declared.instr.Instr.{Instr}
+use Rattle.x86_grammar.specs.declared.row.Form.{Form}
+use Rattle.x86_grammar.specs.declared.row.Row.{Row}
+use Rattle.x86_grammar.specs.declared.row.Counts.{Counts}
+use Rattle.x86_grammar.specs.Rows.{key_of, can_half, any_halves, any_segments, can_hint, rep_fits, has_operand, imm_size}
+use Rattle.x86_grammar.specs.Forms.{In, forms}
+use Rattle.x86_grammar.specs.Operand.{Operand, IsOperand, operand_bytes, rm_of, le}
+
+-- 66, 2E, 3E and F3
+abbrev pub is_prefix : ℕ → Bool
+is_prefix b = b == 102 || b == 46 || b == 62 || b == 243
+
+abbrev pub one_if : Bool → ℕ
+one_if true = 1
+one_if false = 0
+
+abbrev pub more : Counts → ℕ → Counts
+more c b = record { halves = c.halves + one_if (b == 102); segments = c.segments + one_if (b == 46); hints = c.hints + one_if (b == 62); repeats = c.repeats + one_if (b == 243) }
+
+abbrev pub no_counts : Counts
+no_counts = record { halves = 0; segments = 0; hints = 0; repeats = 0 }
+
+-- counted from the left, from what is known already
+abbrev pub counted : Counts → List ℕ → Counts
+counted c [] = c
+counted c (b ∷ ps) = counted (more c b) ps
+
+abbrev pub counts_of : List ℕ → Counts
+counts_of ps = counted no_counts ps
+
+-- the prefixes are those that the row knows
+abbrev pub prefixes_fit : Row → Counts → Bool
+prefixes_fit r c = ((c.halves == 0 || (c.halves == 1 && can_half r)) || any_halves r) && (c.segments == 0 || any_segments r) && (c.hints == 0 || (c.hints == 1 && can_hint r)) && nat_lt c.repeats 2 && rep_fits r (c.repeats == 1)
+
+abbrev pub half_in : Row → Counts → Bool
+half_in r c = c.halves == 1 && can_half r
+
+abbrev pub opcode_bytes : ℕ → List ℕ
+opcode_bytes key = if nat_lt key 256 then key ∷ [] else 15 ∷ (key - 256) ∷ []
+
+-- a form on its prefixes and its operand
+pub record Spelling : Type 0 where
+  pub prefixes : List ℕ
+  pub form : Form
+  pub operand : Operand
+
+abbrev pub operand_part : Bool → Operand → List ℕ
+operand_part true o = operand_bytes o
+operand_part false o = []
+
+abbrev pub bytes_of : Spelling → List ℕ
+bytes_of s = s.prefixes ++ (opcode_bytes (key_of s.form.row) ++ (operand_part (has_operand s.form.row) s.operand ++ le (imm_size s.form.row s.form.half) s.form.imm))
+
+-- ModRM has the form's middle field, and the operand where the form has one
+pub record Shows (o : Operand) (f : Form) : Type 0 where
+  pub is : IsOperand o
+  pub middle : o.m / 8 % 8 ≡ f.middle
+  pub rm : IfSome f.rm (λ m. rm_of o.m o.sib o.disp ≡ m)
+
+pub record IsSpelling (s : Spelling) (i : Instr) : Type 0 where
+  pub among : In s.form (forms i)
+  pub prefixes : AllByRecursion (λ b. is_prefix b ≡ true) s.prefixes
+  pub fit : prefixes_fit s.form.row (counts_of s.prefixes) ≡ true
+  pub half : s.form.half ≡ half_in s.form.row (counts_of s.prefixes)
+  pub rep : s.form.rep ≡ ((counts_of s.prefixes).repeats == 1)
+  pub operand : has_operand s.form.row ≡ true → Shows s.operand s.form
+  pub number : s.form.imm < 256 ^ imm_size s.form.row s.form.half
+
+-- at most fifteen bytes
+pub record Spells (bytes : List ℕ) (i : Instr) : Type 0 where
+  pub spelling : Spelling
+  pub right : IsSpelling spelling i
+  pub bytes_are : bytes ≡ bytes_of spelling
+  pub short : length bytes ≤ 15
