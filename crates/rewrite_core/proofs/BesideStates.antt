@@ -7,11 +7,12 @@ use Rattle.x86_values.specs.declared.byte.Byte.TheVariants.{Unspecified as unspe
 use Rattle.x86_values.specs.declared.word.Word.{Word}
 use Rattle.x86_values.specs.Words.{word_of, known}
 use Rattle.traces.specs.Trace.{Label, Unspecified, Outside, Go}
-use Rattle.x86_meaning.specs.declared.instr.Reg.{Reg}
-use Rattle.x86_meaning.specs.declared.instr.Instr.{Instr}
-use Rattle.x86_meaning.specs.declared.instr.Instr.TheVariants.{Mov, Jmp, Int80}
+use Rattle.x86_types.specs.declared.operand.Reg.{Reg}
+use Rattle.x86_types.specs.declared.instr.Instr.{Instr}
+use Rattle.x86_types.specs.declared.instr.Instr.TheVariants.{Jmp, Int80}
 use Rattle.x86_meaning.specs.declared.state.Cpu.{Cpu}
-use Rattle.x86_meaning.specs.Spells.{number_of}
+use Rattle.x86_types.specs.Numbers.{number_of_reg}
+use Rattle.x86_meaning.specs.Spells.{mov_word}
 use Rattle.x86_meaning.specs.Memory.{Place, Memory, forgotten, forget_below}
 use Rattle.x86_meaning.specs.SystemCall.{Called}
 use Rattle.x86_meaning.specs.Step.{State, Code, zero_word, reg_at, with_reg, with_eip, with_cpu, settled_by, settled, request_of, after_call, step, step_at, next}
@@ -75,11 +76,11 @@ module _ (low high : ℕ) (Places : ℕ → ℕ → Type 0) where
 
   -- MOV of a constant that is no address in the range
   mov_beside : (to : Reg) (from len : ℕ) (s : State) (a : ℕ) (m : Memory) → Places ((s.cpu.eip + len) % 4294967296) ((a + len) % 4294967296) → IsAdded low high s.memory m → IsAway low high (reg_at s.cpu 1) → IsAway low high (word_of from)
-      → Alike Pair (step (Mov to from) len s) (step (Mov to from) len (beside a m s))
+      → Alike Pair (step (mov_word to from) len s) (step (mov_word to from) len (beside a m s))
   unfolding step
   mov_beside to from len s a m places memory buffer constant =
-      settled_alike [] (with_cpu (with_reg (number_of to) (word_of from) (with_eip (s.cpu.eip + len) s.cpu)) s) ((a + len) % 4294967296) m places memory
-      (set_either (IsAway low high) s.cpu.regs (number_of to) 1 (word_of from) zero_word constant buffer)
+      settled_alike [] (with_cpu (with_reg (number_of_reg to) (word_of from) (with_eip (s.cpu.eip + len) s.cpu)) s) ((a + len) % 4294967296) m places memory
+      (set_either (IsAway low high) s.cpu.regs (number_of_reg to) 1 (word_of from) zero_word constant buffer)
 
   -- a jump, by one distance here and by another there
   jump_beside : (by len by' len' : ℕ) (s : State) (a : ℕ) (m : Memory) → Places ((s.cpu.eip + len + by) % 4294967296) ((a + len' + by') % 4294967296) → IsAdded low high s.memory m → IsAway low high (reg_at s.cpu 1)
@@ -108,9 +109,9 @@ module _ (low high : ℕ) (Places : ℕ → ℕ → Type 0) where
   pub none_alike : (s t : State) → StepsAlike None None s t
   none_alike s t = stands [] Outside refl
 
-  pub mov_alike : (to : Reg) (from len : ℕ) (s t : State) → Pair s t → Places ((s.cpu.eip + len) % 4294967296) ((t.cpu.eip + len) % 4294967296) → IsAway low high (word_of from) → StepsAlike (Some (Mov to from, len)) (Some (Mov to from, len)) s t
+  pub mov_alike : (to : Reg) (from len : ℕ) (s t : State) → Pair s t → Places ((s.cpu.eip + len) % 4294967296) ((t.cpu.eip + len) % 4294967296) → IsAway low high (word_of from) → StepsAlike (Some (mov_word to from, len)) (Some (mov_word to from, len)) s t
   mov_alike to from len s t p places constant =
-      subst (λ (u : State). StepsAlike (Some (Mov to from, len)) (Some (Mov to from, len)) s u) p.same (mov_beside to from len s t.cpu.eip t.memory places p.memory p.buffer constant)
+      subst (λ (u : State). StepsAlike (Some (mov_word to from, len)) (Some (mov_word to from, len)) s u) p.same (mov_beside to from len s t.cpu.eip t.memory places p.memory p.buffer constant)
 
   pub call_alike : (len : ℕ) (s t : State) → Pair s t → Places ((s.cpu.eip + len) % 4294967296) ((t.cpu.eip + len) % 4294967296) → StepsAlike (Some (Int80, len)) (Some (Int80, len)) s t
   call_alike len s t p places =

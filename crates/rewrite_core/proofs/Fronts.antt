@@ -1,16 +1,16 @@
 -- What the front of some bytes says of their number, and of the place.
 use Rattle.std.proofs.Common.{◌≡◌, ◌≢◌, ℕ, suc, ◌+◌, ◌≤◌, ◌==◌, Bool, true, false, cond, List, [], ◌∷◌, length, take, Option, Some, None, refl, sym, ap, ◌∙◌, subst, arith}
-use Rattle.x86_meaning.specs.declared.instr.Reg.{Reg}
-use Rattle.x86_meaning.specs.declared.instr.Reg.TheVariants.{Eax, Ecx, Edx, Ebx, Esp, Ebp, Esi, Edi}
-use Rattle.x86_meaning.specs.declared.instr.Instr.{Instr}
-use Rattle.x86_meaning.specs.declared.instr.Instr.TheVariants.{Mov, Jmp, Int80}
-use Rattle.x86_meaning.specs.Spells.{front, mov_of, far_of, near_of, int_of}
+use Rattle.x86_types.specs.declared.operand.Reg.{Reg}
+use Rattle.x86_types.specs.declared.operand.Reg.TheVariants.{Eax, Ecx, Edx, Ebx, Esp, Ebp, Esi, Edi}
+use Rattle.x86_types.specs.declared.instr.Instr.{Instr}
+use Rattle.x86_types.specs.declared.instr.Instr.TheVariants.{Jmp, Int80}
+use Rattle.x86_meaning.specs.Spells.{mov_word, word4, sign_extended, front, mov_of, far_of, near_of, int_of}
 use Rattle.rewrite_core.specs.declared.places.Judgement.{Judgement}
 use Rattle.rewrite_core.specs.declared.places.Judgement.TheVariants.{GoesOn, Jumps, Ends, LeftOut}
 use Rattle.rewrite_core.specs.Met.{is_taken_byte}
 use Rattle.rewrite_core.specs.Places.{is_apart, target_of, judged_as, judged_by, judged_from}
 
-abbrev Found : Type 0
+abbrev pub Found : Type 0
 Found = Option (Instr × ℕ)
 
 -- a length is at least 1 and at most that of the bytes
@@ -60,6 +60,54 @@ front_within (b ∷ bs) =
     (on_cond P (b == 0xE9) _ _ (far_within bs)
     (on_cond P (b == 0xEB) _ _ (near_within bs)
     (on_cond P (b == 0xCD) _ _ (int_within bs) tt))))))))))
+
+-- what a front spells is one of the built instructions
+pub data IsBuilt : Instr → Type 0 where
+  moves : (to : Reg) → (from : ℕ) → IsBuilt (mov_word to from)
+  jumps : (by : ℕ) → IsBuilt (Jmp by)
+  calls : IsBuilt Int80
+
+abbrev pub FoundBuilt : Found → Type 0
+FoundBuilt None = Unit {0}
+FoundBuilt (Some p) = IsBuilt p.0
+
+mov_built : (r : Reg) (bs : List ℕ) → FoundBuilt (mov_of r bs)
+mov_built r [] = tt
+mov_built r (a ∷ []) = tt
+mov_built r (a ∷ b ∷ []) = tt
+mov_built r (a ∷ b ∷ c ∷ []) = tt
+mov_built r (a ∷ b ∷ c ∷ d ∷ rest) = moves r (word4 a b c d)
+
+far_built : (bs : List ℕ) → FoundBuilt (far_of bs)
+far_built [] = tt
+far_built (a ∷ []) = tt
+far_built (a ∷ b ∷ []) = tt
+far_built (a ∷ b ∷ c ∷ []) = tt
+far_built (a ∷ b ∷ c ∷ d ∷ rest) = jumps (word4 a b c d)
+
+near_built : (bs : List ℕ) → FoundBuilt (near_of bs)
+near_built [] = tt
+near_built (a ∷ rest) = jumps (sign_extended a)
+
+int_built : (bs : List ℕ) → FoundBuilt (int_of bs)
+int_built [] = tt
+int_built (a ∷ rest) = on_cond FoundBuilt (a == 0x80) _ _ calls tt
+
+pub front_built : (bs : List ℕ) → FoundBuilt (front bs)
+unfolding front
+front_built [] = tt
+front_built (b ∷ bs) =
+    on_cond FoundBuilt (b == 0xB8) _ _ (mov_built Eax bs)
+    (on_cond FoundBuilt (b == 0xB9) _ _ (mov_built Ecx bs)
+    (on_cond FoundBuilt (b == 0xBA) _ _ (mov_built Edx bs)
+    (on_cond FoundBuilt (b == 0xBB) _ _ (mov_built Ebx bs)
+    (on_cond FoundBuilt (b == 0xBC) _ _ (mov_built Esp bs)
+    (on_cond FoundBuilt (b == 0xBD) _ _ (mov_built Ebp bs)
+    (on_cond FoundBuilt (b == 0xBE) _ _ (mov_built Esi bs)
+    (on_cond FoundBuilt (b == 0xBF) _ _ (mov_built Edi bs)
+    (on_cond FoundBuilt (b == 0xE9) _ _ (far_built bs)
+    (on_cond FoundBuilt (b == 0xEB) _ _ (near_built bs)
+    (on_cond FoundBuilt (b == 0xCD) _ _ (int_built bs) tt))))))))))
 
 -- a longer list begins with the same instruction
 mov_take : (r : Reg) (bs : List ℕ) → mov_of r (take 14 bs) ≡ mov_of r bs
@@ -114,20 +162,23 @@ first_of (b ∷ bs) = Some b
 -- what stands at a place that is judged so
 pub data Stood (p : ℕ) (bs : List ℕ) : Judgement → Type 0 where
   by_none : front bs ≡ None → Stood p bs Ends
-  by_mov : (to : Reg) → (from len : ℕ) → front bs ≡ Some (Mov to from, len) → is_apart from ≡ true → Stood p bs (GoesOn len)
+  by_mov : (to : Reg) → (from len : ℕ) → front bs ≡ Some (mov_word to from, len) → is_apart from ≡ true → Stood p bs (GoesOn len)
   by_call : (len : ℕ) → front bs ≡ Some (Int80, len) → Stood p bs (GoesOn len)
   by_jump : (by len : ℕ) → front bs ≡ Some (Jmp by, len) → Stood p bs (Jumps (target_of (p + len) by))
   by_first : (b : ℕ) → first_of bs ≡ Some b → is_taken_byte b ≡ false → Stood p bs LeftOut
-  by_constant : (to : Reg) → (from len : ℕ) → front bs ≡ Some (Mov to from, len) → is_apart from ≡ false → Stood p bs LeftOut
+  by_constant : (to : Reg) → (from len : ℕ) → front bs ≡ Some (mov_word to from, len) → is_apart from ≡ false → Stood p bs LeftOut
 
-as_stood : (p : ℕ) (bs : List ℕ) (i : Instr) (len : ℕ) → front bs ≡ Some (i, len) → Stood p bs (judged_as p i len)
-as_stood p bs (Mov to from) len e = either (is_apart from) refl
+built_stood : (p : ℕ) (bs : List ℕ) (i : Instr) → IsBuilt i → (len : ℕ) → front bs ≡ Some (i, len) → Stood p bs (judged_as p i len)
+built_stood p bs _ (moves to from) len e = either (is_apart from) refl
   where
     either : (b : Bool) → is_apart from ≡ b → Stood p bs (cond b (GoesOn len) LeftOut)
     either true h = by_mov to from len e h
     either false h = by_constant to from len e h
-as_stood p bs Int80 len e = by_call len e
-as_stood p bs (Jmp by) len e = by_jump by len e
+built_stood p bs _ calls len e = by_call len e
+built_stood p bs _ (jumps by) len e = by_jump by len e
+
+as_stood : (p : ℕ) (bs : List ℕ) (i : Instr) (len : ℕ) → front bs ≡ Some (i, len) → Stood p bs (judged_as p i len)
+as_stood p bs i len e = built_stood p bs i (subst FoundBuilt e (front_built bs)) len e
 
 by_stood : (p : ℕ) (bs : List ℕ) (o : Found) → front bs ≡ o → Stood p bs (judged_by p o)
 by_stood p bs None e = by_none e
@@ -166,7 +217,7 @@ taken_first p (x ∷ bs) b h e =
     ]) refl h
 
 -- a MOV that isn't left out goes on, and moves no address of the written file's own
-pub goes_mov : (p : ℕ) (bs : List ℕ) (to : Reg) (from len : ℕ) → judged_from p bs ≢ LeftOut → front bs ≡ Some (Mov to from, len) → (judged_from p bs ≡ GoesOn len) × (is_apart from ≡ true)
+pub goes_mov : (p : ℕ) (bs : List ℕ) (to : Reg) (from len : ℕ) → judged_from p bs ≢ LeftOut → front bs ≡ Some (mov_word to from, len) → (judged_from p bs ≡ GoesOn len) × (is_apart from ≡ true)
 goes_mov p bs to from len h e =
     let same : judged_from p bs ≡ cond (is_apart from) (GoesOn len) LeftOut = not_left p bs h ∙ ap (judged_by p) e in
     let at = moved_on (is_apart from) len (λ z. h (same ∙ z)) in

@@ -1,18 +1,15 @@
 -- How long what stands at a place is, and how far a jump leads.
-use Rattle.std.proofs.Common.{◌≡◌, ℕ, suc, ◌+◌, ◌%◌, ◌≤◌, ◌==◌, Bool, true, false, cond, List, [], ◌∷◌, length, drop, Option, Some, None, subst, arith, length-drop}
+use Rattle.std.proofs.Common.{◌≡◌, ℕ, suc, ◌+◌, ◌%◌, ◌≤◌, ◌==◌, Bool, true, false, cond, List, [], ◌∷◌, length, drop, Some, None, subst, arith, length-drop}
 use Rattle.std.proofs.lemmas.Bool.Decides.{nat_tests}
-use Rattle.x86_meaning.specs.declared.instr.Reg.{Reg}
-use Rattle.x86_meaning.specs.declared.instr.Reg.TheVariants.{Eax, Ecx, Edx, Ebx, Esp, Ebp, Esi, Edi}
-use Rattle.x86_meaning.specs.declared.instr.Instr.{Instr}
-use Rattle.x86_meaning.specs.declared.instr.Instr.TheVariants.{Mov, Jmp, Int80}
+use Rattle.x86_types.specs.declared.operand.Reg.{Reg}
+use Rattle.x86_types.specs.declared.operand.Reg.TheVariants.{Eax, Ecx, Edx, Ebx, Esp, Ebp, Esi, Edi}
+use Rattle.x86_types.specs.declared.instr.Instr.{Instr}
 use Rattle.x86_meaning.specs.Spells.{front, mov_of, far_of, near_of, int_of}
 use Rattle.rewrite_core.specs.declared.places.Judgement.{Judgement}
 use Rattle.rewrite_core.specs.declared.places.Judgement.TheVariants.{GoesOn, Jumps, Ends, LeftOut}
 use Rattle.rewrite_core.specs.Met.{is_taken_byte}
 use Rattle.rewrite_core.specs.Places.{is_apart, page_start, place_of, judged_as, judged_by, judged_from, judged_at}
-
-abbrev Found : Type 0
-Found = Option (Instr × ℕ)
+use Rattle.rewrite_core.proofs.Fronts.{Found, IsBuilt, moves, jumps, calls, FoundBuilt, front_built}
 
 -- an instruction has one to five bytes, of those that stand there
 abbrev Short : ℕ → ℕ → Type 0
@@ -79,19 +76,19 @@ if_short n false x y p q = q
 place_within : (a : ℕ) → place_of a ≤ 4096
 place_within a = grind (arith, nat_tests)
 
-as_short : (n p : ℕ) (i : Instr) (len : ℕ) → Short n len → JudgedShort n (judged_as p i len)
-as_short n p (Mov to from) len h = if_short n (is_apart from) (GoesOn len) LeftOut h tt
-as_short n p Int80 len h = h
-as_short n p (Jmp by) len h = place_within ((page_start + (p + len) + by) % 4294967296)
+as_short : (n p : ℕ) (i : Instr) → IsBuilt i → (len : ℕ) → Short n len → JudgedShort n (judged_as p i len)
+as_short n p _ (moves to from) len h = if_short n (is_apart from) (GoesOn len) LeftOut h tt
+as_short n p _ calls len h = h
+as_short n p _ (jumps by) len h = place_within ((page_start + (p + len) + by) % 4294967296)
 
-by_short : (n p : ℕ) (o : Found) → FoundShort n o → JudgedShort n (judged_by p o)
-by_short n p None h = tt
-by_short n p (Some q) h = as_short n p q.0 q.1 h
+by_short : (n p : ℕ) (o : Found) → FoundBuilt o → FoundShort n o → JudgedShort n (judged_by p o)
+by_short n p None b h = tt
+by_short n p (Some q) b h = as_short n p q.0 b q.1 h
 
 from_short : (p : ℕ) (bs : List ℕ) → JudgedShort (length bs) (judged_from p bs)
 unfolding judged_from
 from_short p [] = tt
-from_short p (b ∷ bs) = if_short (suc (length bs)) (is_taken_byte b) _ LeftOut (by_short (suc (length bs)) p (front (b ∷ bs)) (front_short (b ∷ bs))) tt
+from_short p (b ∷ bs) = if_short (suc (length bs)) (is_taken_byte b) _ LeftOut (by_short (suc (length bs)) p (front (b ∷ bs)) (front_built (b ∷ bs)) (front_short (b ∷ bs))) tt
 
 pub goes_short : (page : List ℕ) (p len : ℕ) → judged_at page p ≡ GoesOn len → p ≤ length page → (1 ≤ len) × (len ≤ 5) × (p + len ≤ length page)
 goes_short page p len e h =

@@ -6,7 +6,7 @@ use Rattle.traces.specs.Plain.{NeverEnds}
 use Rattle.traces.proofs.Steps.{run_go}
 use Rattle.traces.proofs.Plain.{neither_ends}
 use Rattle.elf_image.specs.Plain.{plain_image}
-use Rattle.x86_meaning.specs.declared.instr.Instr.TheVariants.{Jmp}
+use Rattle.x86_types.specs.declared.instr.Instr.TheVariants.{Jmp}
 use Rattle.x86_meaning.specs.Spells.{front}
 use Rattle.x86_meaning.specs.Memory.{Memory, forget_below}
 use Rattle.x86_meaning.specs.SystemCall.{Environment}

@@ -2,9 +2,9 @@
 use Rattle.std.proofs.Common.{◌≡◌, ◌≢◌, ℕ, suc, ◌+◌, ◌%◌, ◌<◌, ◌≤◌, ◌&&◌, true, false, not, leb, List, length, drop, Option, Some, refl, sym, ap, ◌∙◌, subst, inl, inr, arith, length-drop}
 use Rattle.std.proofs.lemmas.Bool.Decides.{leb_tells}
 use Rattle.elf_image.specs.declared.image.Image.{Image}
-use Rattle.x86_meaning.specs.declared.instr.Instr.{Instr}
-use Rattle.x86_meaning.specs.declared.instr.Instr.TheVariants.{Mov, Jmp, Int80}
-use Rattle.x86_meaning.specs.Spells.{front}
+use Rattle.x86_types.specs.declared.instr.Instr.{Instr}
+use Rattle.x86_types.specs.declared.instr.Instr.TheVariants.{Jmp, Int80}
+use Rattle.x86_meaning.specs.Spells.{mov_word, front}
 use Rattle.x86_meaning.specs.Run.{code_of}
 use Rattle.rewrite_core.specs.declared.places.Judgement.{Judgement}
 use Rattle.rewrite_core.specs.declared.places.Judgement.TheVariants.{GoesOn, Jumps, LeftOut}
@@ -85,7 +85,7 @@ module _ (image : Image) (page : List ℕ) (has : HasPage image page) where
     met_placed (after_mov {a} to from len m e) =
         let at = met_placed m in
         let left = not_left_out page code laid (place_of a) at.0 at.1 in
-        next_placed a at.0 (Mov to from) len at.1 e (goes_mov (place_of a) (drop (place_of a) page) to from len left (spelled_at a _ e)).0
+        next_placed a at.0 (mov_word to from) len at.1 e (goes_mov (place_of a) (drop (place_of a) page) to from len left (spelled_at a _ e)).0
     met_placed (after_call {a} len m e) =
         let at = met_placed m in
         let left = not_left_out page code laid (place_of a) at.0 at.1 in
@@ -133,7 +133,7 @@ module _ (image : Image) (page : List ℕ) (has : HasPage image page) where
   goes_met p a n _ e m (by_mov to from len c h) q =
       let same : len ≡ n = cc in
       let s = code_at a _ c in
-      subst (λ (k : ℕ). IsMet (p + k)) same (on_met p a len (Mov to from) e s (after_mov to from len m s))
+      subst (λ (k : ℕ). IsMet (p + k)) same (on_met p a len (mov_word to from) e s (after_mov to from len m s))
   goes_met p a n _ e m (by_call len c) q =
       let same : len ≡ n = cc in
       let s = code_at a _ c in

@@ -2,9 +2,9 @@
 use Rattle.std.proofs.Common.{◌≡◌, ℕ, ◌+◌, ◌-◌, ◌%◌, ◌<◌, ◌≤◌, List, ◌∷◌, ◌++◌, length, take, drop, replicate, min, All, Some, None, refl, sym, ap, ◌∙◌, inl, arith, append_assoc, length-drop, length-take}
 use Rattle.std.proofs.lemmas.List.{take-append-drop, length-take-le}
 use Rattle.std.proofs.lemmas.List.Elements.{All-drop}
-use Rattle.x86_meaning.specs.declared.instr.Instr.{Instr}
-use Rattle.x86_meaning.specs.declared.instr.Instr.TheVariants.{Mov, Jmp, Int80}
-use Rattle.x86_meaning.specs.Spells.{front, word_bytes}
+use Rattle.x86_types.specs.declared.instr.Instr.{Instr}
+use Rattle.x86_types.specs.declared.instr.Instr.TheVariants.{Jmp, Int80}
+use Rattle.x86_meaning.specs.Spells.{mov_word, front, word_bytes}
 use Rattle.x86_meaning.specs.Run.{code_of}
 use Rattle.x86_meaning.proofs.Spellings.{found, spelled_front}
 use Rattle.rewrite_core.specs.declared.places.Judgement.{Judgement}
@@ -89,7 +89,7 @@ module _ (page code : List ℕ) where
   module _ (laid : IsLaid page code) where
     for_within : (p q : ℕ) (j : Judgement) → Stood p (drop p page) j → StandsFor page code laid.table p q j → q < length code
     for_within p q _ (by_none e) h = omega (arith, stop_within q h)
-    for_within p q _ (by_mov to from len e k) h = let size = own_length (drop p page) (Mov to from) len e in omega (arith, same_within p q (Mov to from) len e h.0, size.1)
+    for_within p q _ (by_mov to from len e k) h = let size = own_length (drop p page) (mov_word to from) len e in omega (arith, same_within p q (mov_word to from) len e h.0, size.1)
     for_within p q _ (by_call len e) h = let size = own_length (drop p page) Int80 len e in omega (arith, same_within p q Int80 len e h.0, size.1)
     for_within p q _ (by_jump by len e) h = let j : JumpsTo code laid.table q _ = h in omega (arith, jump_within q j.to j.jump)
     for_within p q _ (by_first b e k) h = absurd h

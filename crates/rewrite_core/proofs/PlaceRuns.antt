@@ -3,10 +3,10 @@ use Rattle.std.proofs.Common.{◌≡◌, ℕ, ◌+◌, ◌%◌, ◌<◌, true, L
 use Rattle.std.proofs.lemmas.List.Elements.{All-drop}
 use Rattle.x86_values.specs.Words.{word_of}
 use Rattle.elf_image.specs.declared.image.Image.{Image}
-use Rattle.x86_meaning.specs.declared.instr.Reg.{Reg}
-use Rattle.x86_meaning.specs.declared.instr.Instr.{Instr}
-use Rattle.x86_meaning.specs.declared.instr.Instr.TheVariants.{Mov, Jmp, Int80}
-use Rattle.x86_meaning.specs.Spells.{front}
+use Rattle.x86_types.specs.declared.operand.Reg.{Reg}
+use Rattle.x86_types.specs.declared.instr.Instr.{Instr}
+use Rattle.x86_types.specs.declared.instr.Instr.TheVariants.{Jmp, Int80}
+use Rattle.x86_meaning.specs.Spells.{mov_word, front}
 use Rattle.x86_meaning.specs.Step.{State, Code, next}
 use Rattle.x86_meaning.specs.Run.{code_of}
 use Rattle.x86_meaning.specs.StateLaws.{IsForgotten}
@@ -94,13 +94,13 @@ module _ (low high : ℕ) (apart : (k : ℕ) → IsApart k → Away low high k) 
     step_none e st =
         next_alike low high (IsBefore page code laid) old new s t None None (old_at None e) (new_at None (new_stop page code here st)) (none_alike low high (IsBefore page code laid) s t)
 
-    step_mov : (to : Reg) (from len : ℕ) → front (drop place page) ≡ Some (Mov to from, len) → is_apart from ≡ true → StandsFor page code laid.table place here (GoesOn len) → Alike Nearly (next old s) (next new t)
+    step_mov : (to : Reg) (from len : ℕ) → front (drop place page) ≡ Some (mov_word to from, len) → is_apart from ≡ true → StandsFor page code laid.table place here (GoesOn len) → Alike Nearly (next old s) (next new t)
     step_mov to from len e k st =
-        let i : Option (Instr × ℕ) = Some (Mov to from, len) in
-        let spelled = spelled_front (drop place page) (Mov to from) len (All-drop (λ b. b < 256) place page bytes) e in
+        let i : Option (Instr × ℕ) = Some (mov_word to from, len) in
+        let spelled = spelled_front (drop place page) (mov_word to from) len (All-drop (λ b. b < 256) place page bytes) e in
         let constant : IsAway low high (word_of from) = constant_away low high from spelled.spells.0 (apart from (apart-true from k)) in
-        let on = after_same s.cpu.eip t.cpu.eip here (Mov to from) len p.places.is e st.0 st.1 in
-        next_alike low high (IsBefore page code laid) old new s t i i (old_at i e) (new_at i (new_same page code place here (Mov to from) len bytes e st.0))
+        let on = after_same s.cpu.eip t.cpu.eip here (mov_word to from) len p.places.is e st.0 st.1 in
+        next_alike low high (IsBefore page code laid) old new s t i i (old_at i e) (new_at i (new_same page code place here (mov_word to from) len bytes e st.0))
         (mov_alike low high (IsBefore page code laid) to from len s t nearly on constant)
 
     step_call : (len : ℕ) → front (drop place page) ≡ Some (Int80, len) → StandsFor page code laid.table place here (GoesOn len) → Alike Nearly (next old s) (next new t)

@@ -4,14 +4,15 @@ use Rattle.elf_image.specs.declared.image.Image.{Image}
 use Rattle.elf_image.specs.Image.{code_byte_at}
 use Rattle.elf_image.specs.Fields.{has_magic}
 use Rattle.elf_image.specs.Plain.{is_plain, plain_image}
-use Rattle.x86_meaning.specs.declared.instr.Reg.{Reg}
-use Rattle.x86_meaning.specs.declared.instr.Instr.TheVariants.{Mov, Jmp, Int80}
+use Rattle.x86_types.specs.declared.operand.Reg.{Reg}
+use Rattle.x86_types.specs.declared.instr.Instr.TheVariants.{Jmp, Int80}
+use Rattle.x86_meaning.specs.Spells.{mov_word}
 use Rattle.x86_meaning.specs.Run.{code_of}
 
 -- A place is met where it is the entry, the place after a met MOV or `int 0x80`, or the target of a met JMP.
 pub data Met (image : Image) : ℕ → Type 0 where
   entry : Met image image.entry
-  after_mov : {a : ℕ} → (to : Reg) → (from len : ℕ) → Met image a → code_of image a ≡ Some (Mov to from, len) → Met image (a + len)
+  after_mov : {a : ℕ} → (to : Reg) → (from len : ℕ) → Met image a → code_of image a ≡ Some (mov_word to from, len) → Met image (a + len)
   after_call : {a : ℕ} → (len : ℕ) → Met image a → code_of image a ≡ Some (Int80, len) → Met image (a + len)
   target : {a : ℕ} → (by len : ℕ) → Met image a → code_of image a ≡ Some (Jmp by, len) → Met image ((a + len + by) % 4294967296)
 
@@ -26,7 +27,7 @@ IsApart n = (n < 0x60000000) ⊎ (0x7C000000 ≤ n)
 -- What is rewritten so far: each met place that can be run begins so, and no met MOV moves such an address. (own)
 pub record IsTaken (image : Image) : Type 0 where
   pub begins : (a b : ℕ) → Met image a → code_byte_at image a ≡ Some b → is_taken_byte b ≡ true
-  pub apart : (a : ℕ) (to : Reg) (from len : ℕ) → Met image a → code_of image a ≡ Some (Mov to from, len) → IsApart from
+  pub apart : (a : ℕ) (to : Reg) (from len : ℕ) → Met image a → code_of image a ≡ Some (mov_word to from, len) → IsApart from
 
 -- a file that is rewritten
 pub record IsRewritable (file : List ℕ) : Type 0 where

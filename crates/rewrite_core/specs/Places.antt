@@ -1,7 +1,10 @@
 -- The places of a page of code, as distances from its first byte, and the new code in which each has a new place.
 use Rattle.std.specs.Prelude.{◌≡◌, ◌⊎◌, ℕ, ◌+◌, ◌-◌, ◌%◌, ◌≤◌, ◌&&◌, Bool, not, cond, leb, ltb, List, [], ◌∷◌, ◌++◌, length, take, drop, Option, Some, None}
-use Rattle.x86_meaning.specs.declared.instr.Instr.{Instr}
-use Rattle.x86_meaning.specs.declared.instr.Instr.TheVariants.{Mov, Jmp, Int80}
+use Rattle.x86_types.specs.declared.operand.Rm.TheVariants as rm
+use Rattle.x86_types.specs.declared.operand.Src.TheVariants as src
+use Rattle.x86_types.specs.declared.width.Width.TheVariants.{Four}
+use Rattle.x86_types.specs.declared.instr.Instr.{Instr}
+use Rattle.x86_types.specs.declared.instr.Instr.TheVariants.{Mov, Jmp, Int80}
 use Rattle.x86_meaning.specs.Spells.{front, word_bytes}
 use Rattle.rewrite_core.specs.declared.places.Judgement.{Judgement}
 use Rattle.rewrite_core.specs.declared.places.Judgement.TheVariants.{GoesOn, Jumps, Ends, LeftOut}
@@ -28,9 +31,10 @@ abbrev pub target_of : ℕ → ℕ → ℕ
 target_of p by = place_of ((page_start + p + by) % 4294967296)
 
 abbrev pub judged_as : ℕ → Instr → ℕ → Judgement
-judged_as p (Mov to from) len = cond (is_apart from) (GoesOn len) LeftOut
+judged_as p (Mov Four (rm.Reg to) (src.Imm from)) len = cond (is_apart from) (GoesOn len) LeftOut
 judged_as p Int80 len = GoesOn len
 judged_as p (Jmp by) len = Jumps (target_of (p + len) by)
+judged_as p _ len = LeftOut
 
 abbrev pub judged_by : ℕ → Option (Instr × ℕ) → Judgement
 judged_by p None = Ends

@@ -3,7 +3,8 @@ ghost use Rattle.std.specs.Prelude.{◌≡◌, ◌<◌, ◌≤◌, length};
 ghost use Rattle.rewrite_core.specs.Met.{is_taken_byte};
 ghost use Rattle.rewrite_core.specs.Places.{is_apart, place_of, target_of, judged_as, judged_from, judged_at};
 
-use x86_meaning::{Instr, front};
+use x86_meaning::front;
+use x86_types::{Instr, Rm, Src, Width};
 
 /// The address of the page of code.
 const PAGE_START: u32 = 0x0804_9000;
@@ -53,7 +54,11 @@ fn judged_as(at: usize, instr: Instr, len: usize) -> Judgement
     ensures { result ≡ judged_as at instr len }
 {
     match instr {
-        Instr::Mov { from, .. } => {
+        Instr::Mov {
+            width: Width::Four,
+            to: Rm::Reg(_),
+            from: Src::Imm(from),
+        } => {
             if is_apart(from) {
                 Judgement::GoesOn(len)
             } else {
@@ -62,6 +67,7 @@ fn judged_as(at: usize, instr: Instr, len: usize) -> Judgement
         }
         Instr::Int80 => Judgement::GoesOn(len),
         Instr::Jmp { by } => Judgement::Jumps(target_of(at + len, by)),
+        _ => Judgement::LeftOut,
     }
 }
 

@@ -1,3 +1,4 @@
+pub mod Built
 pub mod Spellings
 pub mod States
 pub mod Memories

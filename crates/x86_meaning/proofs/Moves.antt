@@ -1,5 +1,5 @@
 -- What each move of the machine shows, and how it ends.
-use Rattle.std.proofs.Common.{◌≡◌, ℕ, ◌≢◌, Bool, true, false, cond, List, [], Option, Some, None, refl, ◌==◌}
+use Rattle.std.proofs.Common.{◌≡◌, ℕ, ◌≢◌, Bool, true, false, cond, List, [], Option, Some, None, refl, sym, subst, ◌==◌}
 use Rattle.x86_values.specs.declared.answer.Answer.{Answer}
 use Rattle.x86_values.specs.declared.answer.Answer.TheVariants.{Take, Fail}
 use Rattle.x86_values.specs.Words.{known, known_byte}
@@ -9,8 +9,8 @@ use Rattle.traces.specs.Plain.{NeverStops}
 use Rattle.traces.specs.Machines.{marked, turned, Unturned, EndsIn}
 use Rattle.traces.proofs.Runs.{run_grows, ends_in}
 use Rattle.traces.proofs.Adapt.{turned_ticks, turned_paced}
-use Rattle.x86_meaning.specs.declared.instr.Instr.{Instr}
-use Rattle.x86_meaning.specs.declared.instr.Instr.TheVariants.{Mov, Jmp, Int80}
+use Rattle.x86_types.specs.declared.instr.Instr.{Instr}
+use Rattle.x86_meaning.proofs.Built.{Built, moves, jumps, calls, other, built}
 use Rattle.x86_meaning.specs.declared.state.Cpu.{Cpu}
 use Rattle.x86_meaning.specs.Memory.{Memory}
 use Rattle.x86_meaning.specs.SystemCall.{Request, Environment, Called, Ends, Gives, Plan, Refused, Stops, Asks, read_plan, write_plan, read_by, write_by, reads, writes, read_call, write_call, exit_call, transfer, call_by, system_call, next_answer}
@@ -96,11 +96,15 @@ after_plain : (x : Called) (cpu : Cpu) → IsPlainCall x → IsPlain (after_call
 after_plain (Ends e) cpu h = record { unturned = refl; own = h }
 after_plain (Gives ls r m left) cpu h = settled_plain ls _ h
 
-step_plain : (i : Instr) (len : ℕ) (s : State) → IsPlain (step i len s)
+built_plain : (i : Instr) → Built i → (len : ℕ) (s : State) → IsPlain (step i len s)
 unfolding step
-step_plain (Mov to from) len s = settled_plain [] _ refl
-step_plain (Jmp by) len s = settled_plain [] _ refl
-step_plain Int80 len s = after_plain _ _ (system_plain _ s.memory s.left)
+built_plain _ (moves to from) len s = settled_plain [] _ refl
+built_plain _ (jumps by) len s = settled_plain [] _ refl
+built_plain _ calls len s = after_plain _ _ (system_plain _ s.memory s.left)
+built_plain i (other stands none) len s = subst IsPlain (sym (stands len s)) (record { unturned = refl; own = tt })
+
+step_plain : (i : Instr) (len : ℕ) (s : State) → IsPlain (step i len s)
+step_plain i = built_plain i (built i)
 
 pub next_plain : (code : Code) (s : State) → IsPlain (next code s)
 unfolding next

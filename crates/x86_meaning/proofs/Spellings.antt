@@ -6,11 +6,13 @@ use Rattle.std.proofs.lemmas.Bool.{eqb-true, cond_both}
 use Rattle.elf_image.specs.declared.image.Image.{Image}
 use Rattle.elf_image.specs.Image.{code_byte_at, then_code, code_bytes}
 use Rattle.x86_meaning.specs.Run.{code_of}
-use Rattle.x86_meaning.specs.declared.instr.Reg.{Reg}
-use Rattle.x86_meaning.specs.declared.instr.Reg.TheVariants.{Eax, Ecx, Edx, Ebx, Esp, Ebp, Esi, Edi}
-use Rattle.x86_meaning.specs.declared.instr.Instr.{Instr}
-use Rattle.x86_meaning.specs.declared.instr.Instr.TheVariants.{Mov, Jmp, Int80}
-use Rattle.x86_meaning.specs.Spells.{number_of, word_bytes, word4, sign_extended, Spells, FrontSpells, mov_of, far_of, near_of, int_of, front}
+use Rattle.x86_types.specs.declared.operand.Reg.{Reg}
+use Rattle.x86_types.specs.declared.operand.Reg.TheVariants.{Eax, Ecx, Edx, Ebx, Esp, Ebp, Esi, Edi}
+use Rattle.x86_types.specs.declared.instr.Instr.{Instr}
+use Rattle.x86_types.specs.declared.instr.Instr.TheVariants.{Jmp, Int80}
+use Rattle.x86_types.specs.Numbers.{number_of_reg}
+use Rattle.x86_meaning.proofs.Built.{Built, moves, jumps, calls, other, built}
+use Rattle.x86_meaning.specs.Spells.{mov_word, word_bytes, word4, sign_extended, Spells, FrontSpells, mov_of, far_of, near_of, int_of, front}
 
 -- a word below 2^32 is the number of its bytes
 word_again : (n : ℕ) → n < 2 ^ 32 → word4 (n % 256) (n / 256 % 256) (n / 65536 % 256) (n / 16777216 % 256) ≡ n
@@ -32,16 +34,16 @@ extended_below : (b : ℕ) → b < 256 → sign_extended b < 2 ^ 32
 extended_below b h = cond_both (ltb b 128) b (4294967040 + b) (λ x. x < 2 ^ 32) (λ e. omega arith) (λ e. omega arith)
 
 -- the front of a spelling and any more bytes
-found_mov : (to : Reg) (n : ℕ) (rest : List ℕ) → n < 2 ^ 32 → front ((0xB8 + number_of to) ∷ (word_bytes n ++ rest)) ≡ Some (Mov to n, 5)
+found_mov : (to : Reg) (n : ℕ) (rest : List ℕ) → n < 2 ^ 32 → front ((0xB8 + number_of_reg to) ∷ (word_bytes n ++ rest)) ≡ Some (mov_word to n, 5)
 unfolding front
-found_mov Eax n rest h = ap (λ x. Some (Mov Eax x, 5)) (word_again n h)
-found_mov Ecx n rest h = ap (λ x. Some (Mov Ecx x, 5)) (word_again n h)
-found_mov Edx n rest h = ap (λ x. Some (Mov Edx x, 5)) (word_again n h)
-found_mov Ebx n rest h = ap (λ x. Some (Mov Ebx x, 5)) (word_again n h)
-found_mov Esp n rest h = ap (λ x. Some (Mov Esp x, 5)) (word_again n h)
-found_mov Ebp n rest h = ap (λ x. Some (Mov Ebp x, 5)) (word_again n h)
-found_mov Esi n rest h = ap (λ x. Some (Mov Esi x, 5)) (word_again n h)
-found_mov Edi n rest h = ap (λ x. Some (Mov Edi x, 5)) (word_again n h)
+found_mov Eax n rest h = ap (λ x. Some (mov_word Eax x, 5)) (word_again n h)
+found_mov Ecx n rest h = ap (λ x. Some (mov_word Ecx x, 5)) (word_again n h)
+found_mov Edx n rest h = ap (λ x. Some (mov_word Edx x, 5)) (word_again n h)
+found_mov Ebx n rest h = ap (λ x. Some (mov_word Ebx x, 5)) (word_again n h)
+found_mov Esp n rest h = ap (λ x. Some (mov_word Esp x, 5)) (word_again n h)
+found_mov Ebp n rest h = ap (λ x. Some (mov_word Ebp x, 5)) (word_again n h)
+found_mov Esi n rest h = ap (λ x. Some (mov_word Esi x, 5)) (word_again n h)
+found_mov Edi n rest h = ap (λ x. Some (mov_word Edi x, 5)) (word_again n h)
 
 found_far : (n : ℕ) (rest : List ℕ) → n < 2 ^ 32 → front (0xE9 ∷ (word_bytes n ++ rest)) ≡ Some (Jmp n, 5)
 unfolding front
@@ -56,14 +58,18 @@ unfolding front
 found_int rest = refl
 
 -- a spelling is found, whatever comes after it
-pub found : (s rest : List ℕ) (i : Instr) → Spells s i → front (s ++ rest) ≡ Some (i, length s)
-found s rest (Mov to n) h = rw h.1 (found_mov to n rest h.0)
-found s rest (Jmp n) h =
+found_built : (s rest : List ℕ) (i : Instr) → Built i → Spells s i → front (s ++ rest) ≡ Some (i, length s)
+found_built s rest _ (moves to n) h = rw h.1 (found_mov to n rest h.0)
+found_built s rest _ (jumps n) h =
     ⊎_elim
     (λ e. rw e (found_far n rest h.0))
     (λ j. let e = j.spelled in let g = j.extended in rw (e, g) (found_near j.rel8 rest))
     h.1
-found s rest Int80 h = rw h (found_int rest)
+found_built s rest _ calls h = rw h (found_int rest)
+found_built s rest i (other stands none) h = absurd (none s h)
+
+pub found : (s rest : List ℕ) (i : Instr) → Spells s i → front (s ++ rest) ≡ Some (i, length s)
+found s rest i = found_built s rest i (built i)
 
 -- equal pairs have equal parts
 some_pair : (p q : Instr × ℕ) → Some p ≡ Some q → (p.0 ≡ q.0) × (p.1 ≡ q.1)
@@ -78,22 +84,22 @@ found_front bytes i len h =
     subst (λ x. front x ≡ Some (i, len)) (take-append-drop len bytes) (subst (λ x. front (take len bytes ++ drop len bytes) ≡ Some (i, x)) k e)
 
 -- the other way: what is computed is spelled
-spelled_mov : (to : Reg) (bs : List ℕ) (i : Instr) (len : ℕ) → All (λ b. b < 256) bs → mov_of to bs ≡ Some (i, len) → FrontSpells ((0xB8 + number_of to) ∷ bs) i len
+spelled_mov : (to : Reg) (bs : List ℕ) (i : Instr) (len : ℕ) → All (λ b. b < 256) bs → mov_of to bs ≡ Some (i, len) → FrontSpells ((0xB8 + number_of_reg to) ∷ bs) i len
 spelled_mov to [] i len h e = cc
 spelled_mov to (a ∷ []) i len h e = cc
 spelled_mov to (a ∷ b ∷ []) i len h e = cc
 spelled_mov to (a ∷ b ∷ c ∷ []) i len h e = cc
 spelled_mov to (a ∷ b ∷ c ∷ d ∷ rest) i len h e =
-    let ei : Mov to (word4 a b c d) ≡ i = (some_pair _ _ e).0 in
+    let ei : mov_word to (word4 a b c d) ≡ i = (some_pair _ _ e).0 in
     let el : 5 ≡ len = (some_pair _ _ e).1 in
     let p0 : a < 256 = h 0 0 (omega arith) in
     let p1 : b < 256 = h 1 0 (omega arith) in
     let p2 : c < 256 = h 2 0 (omega arith) in
     let p3 : d < 256 = h 3 0 (omega arith) in
-    subst (λ x. FrontSpells ((0xB8 + number_of to) ∷ a ∷ b ∷ c ∷ d ∷ rest) x len) ei
-    (subst (λ x. FrontSpells ((0xB8 + number_of to) ∷ a ∷ b ∷ c ∷ d ∷ rest) (Mov to (word4 a b c d)) x) el (record {
+    subst (λ x. FrontSpells ((0xB8 + number_of_reg to) ∷ a ∷ b ∷ c ∷ d ∷ rest) x len) ei
+    (subst (λ x. FrontSpells ((0xB8 + number_of_reg to) ∷ a ∷ b ∷ c ∷ d ∷ rest) (mov_word to (word4 a b c d)) x) el (record {
       there = omega arith;
-      spells = (word4_below a b c d p0 p1 p2 p3, ap (λ x. (0xB8 + number_of to) ∷ x) (sym (bytes_again a b c d p0 p1 p2 p3)));
+      spells = (word4_below a b c d p0 p1 p2 p3, ap (λ x. (0xB8 + number_of_reg to) ∷ x) (sym (bytes_again a b c d p0 p1 p2 p3)));
     }))
 
 spelled_far : (bs : List ℕ) (i : Instr) (len : ℕ) → All (λ b. b < 256) bs → far_of bs ≡ Some (i, len) → FrontSpells (0xE9 ∷ bs) i len
@@ -178,14 +184,18 @@ no_spelling_begins a b x y i j p q e =
     let t : take (length a) (a ++ x) ≡ take (length a) (b ++ y) = ap (take (length a)) e in
     (sym (take_at a x (length a) refl) ∙ t ∙ take_at b y (length a) long, same)
 
-pub short : (bytes : List ℕ) (i : Instr) → Spells bytes i → (2 ≤ length bytes) × (length bytes ≤ 15)
-short bytes (Mov to n) h = let e : length bytes ≡ 5 = ap length h.1 in (omega arith, omega arith)
-short bytes (Jmp n) h =
+short_built : (bytes : List ℕ) (i : Instr) → Built i → Spells bytes i → (2 ≤ length bytes) × (length bytes ≤ 15)
+short_built bytes _ (moves to n) h = let e : length bytes ≡ 5 = ap length h.1 in (omega arith, omega arith)
+short_built bytes _ (jumps n) h =
     ⊎_elim
     (λ x. let e : length bytes ≡ 5 = ap length x in (omega arith, omega arith))
     (λ x. let e : length bytes ≡ 2 = ap length x.spelled in (omega arith, omega arith))
     h.1
-short bytes Int80 h = let e : length bytes ≡ 2 = ap length h in (omega arith, omega arith)
+short_built bytes _ calls h = let e : length bytes ≡ 2 = ap length h in (omega arith, omega arith)
+short_built bytes i (other stands none) h = absurd (none bytes h)
+
+pub short : (bytes : List ℕ) (i : Instr) → Spells bytes i → (2 ≤ length bytes) × (length bytes ≤ 15)
+short bytes i = short_built bytes i (built i)
 
 pub none_spells : (bytes : List ℕ) → front bytes ≡ None → (i : Instr) (len : ℕ) → FrontSpells bytes i len → ⊥
 none_spells bytes e i len h = let f = found_front bytes i len h in cc

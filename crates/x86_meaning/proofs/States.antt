@@ -10,8 +10,8 @@ use Rattle.x86_values.specs.Words.{word_of, known, known_byte}
 use Rattle.traces.specs.Trace.{Label, Move, Stand, Go, Halt}
 use Rattle.elf_image.specs.declared.image.Segment.{Segment}
 use Rattle.elf_image.specs.Image.{segment_at}
-use Rattle.x86_meaning.specs.declared.instr.Instr.{Instr}
-use Rattle.x86_meaning.specs.declared.instr.Instr.TheVariants.{Mov, Jmp, Int80}
+use Rattle.x86_types.specs.declared.instr.Instr.{Instr}
+use Rattle.x86_meaning.proofs.Built.{Built, moves, jumps, calls, other, built}
 use Rattle.x86_meaning.specs.declared.state.Cpu.{Cpu}
 use Rattle.x86_meaning.specs.Memory.{Place, Memory, known_all, forgotten, forget_below, place_in, memory_of, with_stack, kind_of, SameOutside, IsApart}
 use Rattle.x86_meaning.specs.SystemCall.{Request, Environment, Called, Ends, Gives, cap, error, EBADF, EFAULT, passes, Plan, Refused, Stops, Asks, asks_known, read_plan, write_plan, read_by, write_by, reads, writes, read_call, write_call, exit_call, transfer, call_by, system_call, next_answer}
@@ -128,11 +128,15 @@ after_after : (m : Memory) (x : Called) (cpu : Cpu) → CallKeeps m x → Reache
 after_after m (Ends e) cpu k = tt
 after_after m (Gives ls r n left) cpu k = after_settled m ls _ k
 
-after_step : (i : Instr) (len : ℕ) (s : State) → Reaches (IsAfter s.memory) (step i len s)
+after_built : (i : Instr) → Built i → (len : ℕ) (s : State) → Reaches (IsAfter s.memory) (step i len s)
 unfolding step
-after_step (Mov to from) len s = after_settled s.memory [] _ (λ a. refl)
-after_step (Jmp by) len s = after_settled s.memory [] _ (λ a. refl)
-after_step Int80 len s = after_after s.memory _ _ (system_keeps _ s.memory s.left)
+after_built _ (moves to from) len s = after_settled s.memory [] _ (λ a. refl)
+after_built _ (jumps by) len s = after_settled s.memory [] _ (λ a. refl)
+after_built _ calls len s = after_after s.memory _ _ (system_keeps _ s.memory s.left)
+after_built i (other stands none) len s = subst (Reaches (IsAfter s.memory)) (sym (stands len s)) tt
+
+after_step : (i : Instr) (len : ℕ) (s : State) → Reaches (IsAfter s.memory) (step i len s)
+after_step i = after_built i (built i)
 
 after_next : (code : Code) (s : State) → Reaches (IsAfter s.memory) (next code s)
 unfolding next

@@ -5,7 +5,7 @@ use Rattle.traces.specs.Turns.{Paced, Ticks}
 use Rattle.traces.specs.Plain.{NeverStops}
 use Rattle.elf_image.specs.declared.image.Image.{Image}
 use Rattle.elf_image.specs.Image.{code_bytes}
-use Rattle.x86_meaning.specs.declared.instr.Instr.{Instr}
+use Rattle.x86_types.specs.declared.instr.Instr.{Instr}
 use Rattle.x86_meaning.specs.Spells.{Spells, FrontSpells, front}
 use Rattle.x86_meaning.specs.Step.{State, Code}
 use Rattle.x86_meaning.specs.Run.{code_of, run_from}

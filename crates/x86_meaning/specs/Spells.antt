@@ -1,19 +1,17 @@
 -- The spellings of the built forms (Intel SDM volume 2, "MOV", "JMP", "INT n").
 use Rattle.std.specs.Prelude.{◌≡◌, ◌⊎◌, ℕ, ◌+◌, ◌*◌, ◌/◌, ◌%◌, ◌^◌, ◌<◌, ◌≤◌, ◌==◌, cond, ltb, List, [], ◌∷◌, length, take, Option, Some, None}
-use Rattle.x86_meaning.specs.declared.instr.Reg.{Reg}
-use Rattle.x86_meaning.specs.declared.instr.Reg.TheVariants.{Eax, Ecx, Edx, Ebx, Esp, Ebp, Esi, Edi}
-use Rattle.x86_meaning.specs.declared.instr.Instr.{Instr}
-use Rattle.x86_meaning.specs.declared.instr.Instr.TheVariants.{Mov, Jmp, Int80}
+use Rattle.x86_types.specs.declared.operand.Reg.{Reg}
+use Rattle.x86_types.specs.declared.operand.Reg.TheVariants.{Eax, Ecx, Edx, Ebx, Esp, Ebp, Esi, Edi}
+use Rattle.x86_types.specs.declared.operand.Rm.TheVariants as rm
+use Rattle.x86_types.specs.declared.operand.Src.TheVariants as src
+use Rattle.x86_types.specs.declared.width.Width.TheVariants.{Four}
+use Rattle.x86_types.specs.declared.instr.Instr.{Instr}
+use Rattle.x86_types.specs.declared.instr.Instr.TheVariants.{Mov, Jmp, Int80}
+use Rattle.x86_types.specs.Numbers.{number_of_reg}
 
-abbrev pub number_of : Reg → ℕ
-number_of Eax = 0
-number_of Ecx = 1
-number_of Edx = 2
-number_of Ebx = 3
-number_of Esp = 4
-number_of Ebp = 5
-number_of Esi = 6
-number_of Edi = 7
+-- a move of a constant to a register
+abbrev pub mov_word : Reg → ℕ → Instr
+mov_word to from = Mov Four (rm.Reg to) (src.Imm from)
 
 -- a word's four bytes, lowest first, and back
 abbrev pub word_bytes : ℕ → List ℕ
@@ -33,11 +31,12 @@ pub record IsShortJump (bytes : List ℕ) (by : ℕ) : Type 0 where
   pub extended : by ≡ sign_extended rel8
   pub spelled : bytes ≡ 0xEB ∷ rel8 ∷ []
 
--- the bytes are a spelling of the instruction: B8+r id; E9 rel32 or EB rel8; CD 80
+-- the bytes are a spelling of the instruction: B8+r id; E9 rel32 or EB rel8; CD 80. No other instruction is built so far.
 abbrev pub Spells : List ℕ → Instr → Type 0
-Spells bytes (Mov to from) = (from < 2 ^ 32) × (bytes ≡ (0xB8 + number_of to) ∷ word_bytes from)
+Spells bytes (Mov Four (rm.Reg to) (src.Imm from)) = (from < 2 ^ 32) × (bytes ≡ (0xB8 + number_of_reg to) ∷ word_bytes from)
 Spells bytes (Jmp by) = (by < 2 ^ 32) × ((bytes ≡ 0xE9 ∷ word_bytes by) ⊎ IsShortJump bytes by)
 Spells bytes Int80 = bytes ≡ 0xCD ∷ 0x80 ∷ []
+Spells bytes _ = ⊥
 
 -- a front of so many bytes spells the instruction
 pub record FrontSpells (bytes : List ℕ) (instr : Instr) (len : ℕ) : Type 0 where
@@ -47,7 +46,7 @@ pub record FrontSpells (bytes : List ℕ) (instr : Instr) (len : ℕ) : Type 0 w
 -- The instruction that a front spells, with the length of that front: there is at most one. It is computed here, so that
 -- a run is a function; the laws say that it is the relation.
 abbrev pub mov_of : Reg → List ℕ → Option (Instr × ℕ)
-mov_of to (a ∷ b ∷ c ∷ d ∷ rest) = Some (Mov to (word4 a b c d), 5)
+mov_of to (a ∷ b ∷ c ∷ d ∷ rest) = Some (mov_word to (word4 a b c d), 5)
 mov_of to _ = None
 
 abbrev pub far_of : List ℕ → Option (Instr × ℕ)

@@ -5,9 +5,12 @@ use Rattle.x86_values.specs.declared.word.Word.{Word}
 use Rattle.x86_values.specs.Words.{word_of, known}
 use Rattle.traces.specs.Trace.{Label, Outside, Unspecified, Move, Stand, Go, Halt}
 use Rattle.x86_meaning.specs.declared.state.Cpu.{Cpu}
-use Rattle.x86_meaning.specs.declared.instr.Instr.{Instr}
-use Rattle.x86_meaning.specs.declared.instr.Instr.TheVariants.{Mov, Jmp, Int80}
-use Rattle.x86_meaning.specs.Spells.{number_of}
+use Rattle.x86_types.specs.declared.operand.Rm.TheVariants as rm
+use Rattle.x86_types.specs.declared.operand.Src.TheVariants as src
+use Rattle.x86_types.specs.declared.width.Width.TheVariants.{Four}
+use Rattle.x86_types.specs.declared.instr.Instr.{Instr}
+use Rattle.x86_types.specs.declared.instr.Instr.TheVariants.{Mov, Jmp, Int80}
+use Rattle.x86_types.specs.Numbers.{number_of_reg}
 use Rattle.x86_meaning.specs.Memory.{Memory, forget_below}
 use Rattle.x86_meaning.specs.SystemCall.{Request, Environment, Called, Ends, Gives, system_call}
 
@@ -49,11 +52,12 @@ abbrev pub after_call : Called → Cpu → Move State
 after_call (Ends e) cpu = Halt [] e
 after_call (Gives ls result m left) cpu = settled ls (record { cpu = with_reg 0 (word_of result) cpu; memory = m; left = left })
 
--- the effect of an instruction of this length (Intel SDM volume 2, "MOV", "JMP", "INT n")
+-- the effect of an instruction of this length (Intel SDM volume 2, "MOV", "JMP", "INT n"); those that aren't built stand nowhere
 unfoldable pub step : Instr → ℕ → State → Move State
-step (Mov to from) len s = settled [] (with_cpu (with_reg (number_of to) (word_of from) (with_eip (s.cpu.eip + len) s.cpu)) s)
+step (Mov Four (rm.Reg to) (src.Imm from)) len s = settled [] (with_cpu (with_reg (number_of_reg to) (word_of from) (with_eip (s.cpu.eip + len) s.cpu)) s)
 step (Jmp by) len s = settled [] (with_cpu (with_eip (s.cpu.eip + len + by) s.cpu) s)
 step Int80 len s = after_call (system_call (request_of s.cpu) s.memory s.left) (with_eip (s.cpu.eip + len) s.cpu)
+step _ len s = Stand [] Outside
 
 -- the instruction that stands at an address, with its length
 abbrev pub Code : Type 0

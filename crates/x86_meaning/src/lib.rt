@@ -2,12 +2,10 @@
 //! (Intel SDM volume 2; System V ABI, Intel386 supplement; Linux for the i386).
 #![tactic(auto)]
 
-mod instr;
 mod laws;
 mod spelling;
 mod state;
 
-pub use instr::{Instr, Reg};
 pub use laws::{memory_laws, run_laws, same_memory_laws, spelling_laws, state_laws, worked_runs};
 pub use spelling::front;
 pub use state::Cpu;

@@ -2,7 +2,7 @@
 ghost use Rattle.std.specs.Prelude.{◌≡◌};
 ghost use Rattle.x86_meaning.specs.Spells.{front, mov_of, sign_extended};
 
-use crate::{Instr, Reg};
+use x86_types::{Instr, Reg, Rm, Src, Width};
 
 /// The instruction that a front of the bytes spells, and the length of that front in bytes; `None` exactly where no
 /// front spells one of the built forms.
@@ -37,8 +37,9 @@ fn mov(to: Reg, bytes: &[u8]) -> Option<(Instr, u8)>
 {
     match bytes {
         [a, b, c, d, ..] => {
-            let from = u32::from_le_bytes([*a, *b, *c, *d]);
-            Some((Instr::Mov { to, from }, 5))
+            let from = Src::Imm(u32::from_le_bytes([*a, *b, *c, *d]));
+            let (width, to) = (Width::Four, Rm::Reg(to));
+            Some((Instr::Mov { width, to, from }, 5))
         }
         _ => None,
     }

@@ -1,6 +1,7 @@
 // Bytes and what they spell, by Intel SDM volume 2: "MOV" (B8+rd id), "JMP" (EB cb, E9 cd), "INT n" (CD ib), and the
 // numbers of the registers of "Register Codes".
-use crate::{Instr, Reg, front};
+use crate::front;
+use x86_types::{Instr, Reg, Rm, Src, Width};
 
 #[test]
 fn spells_moves(rt: HostRuntime) {
@@ -15,11 +16,12 @@ fn spells_moves(rt: HostRuntime) {
         (0xBF, Reg::Edi),
     ];
     for (opcode, to) in table {
-        let from = 0x12345678;
+        let from = Src::Imm(0x12345678);
+        let (width, to) = (Width::Four, Rm::Reg(to));
         let bytes = [opcode, 0x78, 0x56, 0x34, 0x12];
         assert_eq!(rt;
             front(&bytes),
-            Some((Instr::Mov { to, from }, 5)),
+            Some((Instr::Mov { width, to, from }, 5)),
             "at {opcode}"
         );
     }
