@@ -75,20 +75,23 @@ if "$sw" 2>said.err; [ $? -ne 125 ]; then
     exit 1
 fi
 
-for name in exit7 hello other_call; do
+for name in exit7 hello jumps other_call; do
     cp "$top/examples/$name" "$name"
     chmod +x "$name"
     check "$name is rewritten" writes "$name"
 done
 check "exit7: the new code" code_is exit7.new "BB 07 00 00 00 B8 01 00 00 00 CD 80 0F 0B"
+check "jumps: the new code" code_is jumps.new "E9 00 00 00 00 BB 05 00 00 00 E9 00 00 00 00 B8 01 00 00 00 CD 80 0F 0B"
 
 run exit7
 if [ "$status" -eq 7 ]; then
-    chmod +x exit7.new hello.new other_call.new
+    chmod +x exit7.new hello.new jumps.new other_call.new
     check "exit7: the old file ends with 7" ends exit7 7 ""
     check "exit7: the new file ends with 7" ends exit7.new 7 ""
     check "hello: the old file writes hi and ends with 0" ends hello 0 "hi\n"
     check "hello: the new file writes hi and ends with 0" ends hello.new 0 "hi\n"
+    check "jumps: the old file ends with 5" ends jumps 5 ""
+    check "jumps: the new file ends with 5" ends jumps.new 5 ""
     # For the program call 20 ends a run. The kernel's call 20 is getpid: it goes on, to HLT in the old file and to UD2 in
     # the new one, and both fault there, by different signals.
     check "other_call: the old file doesn't end with 0" faults other_call
