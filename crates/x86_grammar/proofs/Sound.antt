@@ -12,7 +12,8 @@ use Rattle.x86_grammar.specs.declared.row.Counts.{Counts}
 use Rattle.x86_grammar.specs.declared.row.Entry.{Entry}
 use Rattle.x86_grammar.specs.declared.row.Entry.TheVariants as entry
 use Rattle.x86_grammar.specs.Table.{entry_of, row_in}
-use Rattle.x86_grammar.specs.Rows.{key_of, can_half, has_operand, imm_size, rep_fits, any_halves, any_segments, can_hint}
+use Rattle.x86_grammar.specs.Rows.{key_of, has_operand}
+use Rattle.x86_grammar.specs.Attributes.{can_half, imm_size, rep_fits, any_halves, any_segments, can_hint}
 use Rattle.x86_grammar.specs.Meaning.{build}
 use Rattle.x86_grammar.specs.Operand.{le, from_le, has_sib, disp_size, rm_of, sibs}
 use Rattle.x86_grammar.specs.Spells.{is_prefix, more, no_counts, counted, counts_of, prefixes_fit, half_in, opcode_bytes, operand_part, Spelling, Spells}
