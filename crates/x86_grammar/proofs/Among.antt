@@ -17,9 +17,11 @@ use Rattle.x86_types.specs.declared.instr.Instr.TheVariants as instr
 use Rattle.x86_grammar.specs.declared.row.Form.{Form}
 use Rattle.x86_grammar.specs.declared.row.Row.{Row}
 use Rattle.x86_grammar.specs.declared.row.Row.TheVariants as row
-use Rattle.x86_grammar.specs.Rows.{has_operand, imm_size, width_of}
+use Rattle.x86_grammar.specs.Rows.{has_operand}
+use Rattle.x86_grammar.specs.Attributes.{imm_size, width_of}
 use Rattle.x86_grammar.specs.Meaning.{build}
-use Rattle.x86_grammar.specs.Forms.{forms, In, full_of, half_of, signed, if_signed, with_rm, plain, if_acc}
+use Rattle.x86_grammar.specs.Forms.{forms, In}
+use Rattle.x86_grammar.specs.Parts.{full_of, half_of, signed, if_signed, with_rm, plain, if_acc}
 use Rattle.x86_grammar.proofs.Means.{Suits}
 
 -- what a spelling has in its parts, with 0 for the middle field where there is none

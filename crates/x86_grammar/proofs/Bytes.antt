@@ -9,7 +9,8 @@ use Rattle.x86_grammar.specs.declared.row.Row.{Row}
 use Rattle.x86_grammar.specs.declared.row.Entry.TheVariants as entry
 use Rattle.x86_grammar.specs.declared.opcode_map.TheConstants.{ENTRIES}
 use Rattle.x86_grammar.specs.Table.{entry_of, row_at}
-use Rattle.x86_grammar.specs.Rows.{key_of, has_operand, imm_size}
+use Rattle.x86_grammar.specs.Rows.{key_of, has_operand}
+use Rattle.x86_grammar.specs.Attributes.{imm_size}
 use Rattle.x86_grammar.specs.Forms.{forms}
 use Rattle.x86_grammar.specs.Operand.{Operand, IsOperand, le, sibs, has_sib, disp_size}
 use Rattle.x86_grammar.specs.Spells.{is_prefix, opcode_bytes, operand_part, bytes_of, Spelling, IsSpelling, Spells}

@@ -20,9 +20,11 @@ use Rattle.x86_types.specs.declared.instr.Instr.TheVariants as instr
 use Rattle.x86_grammar.specs.declared.row.Form.{Form}
 use Rattle.x86_grammar.specs.declared.row.Row.{Row}
 use Rattle.x86_grammar.specs.declared.row.Row.TheVariants as row
-use Rattle.x86_grammar.specs.Rows.{can_half, has_operand, imm_size, width_of, wide_size, key_of, rep_fits}
+use Rattle.x86_grammar.specs.Rows.{has_operand, key_of}
+use Rattle.x86_grammar.specs.Attributes.{can_half, imm_size, width_of, wide_size, rep_fits}
 use Rattle.x86_grammar.specs.Meaning.{build}
-use Rattle.x86_grammar.specs.Forms.{forms, In, full_of, half_of, signed}
+use Rattle.x86_grammar.specs.Forms.{forms, In}
+use Rattle.x86_grammar.specs.Parts.{full_of, half_of, signed}
 use Rattle.x86_grammar.specs.Operand.{Operand, rm_of, le, sibs, has_sib, disp_size, mod_size, low_of}
 use Rattle.x86_grammar.specs.Spells.{is_prefix, counts_of, prefixes_fit, half_in, opcode_bytes, operand_part, bytes_of, Spelling, IsSpelling}
 use Rattle.x86_grammar.specs.Fields.{number_fits, rm_fits, is_wide, widens, fields_fit, HasSpelling}

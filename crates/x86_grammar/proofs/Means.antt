@@ -21,9 +21,11 @@ use Rattle.x86_types.specs.declared.instr.Instr.TheVariants as instr
 use Rattle.x86_grammar.specs.declared.row.Form.{Form}
 use Rattle.x86_grammar.specs.declared.row.Row.{Row}
 use Rattle.x86_grammar.specs.declared.row.Row.TheVariants as row
-use Rattle.x86_grammar.specs.Rows.{middle_of, fits_middle, can_half, rep_fits, has_operand, width_of}
+use Rattle.x86_grammar.specs.Rows.{middle_of, fits_middle, has_operand}
+use Rattle.x86_grammar.specs.Attributes.{can_half, rep_fits, width_of}
 use Rattle.x86_grammar.specs.Meaning.{build, src_of, number_alone}
-use Rattle.x86_grammar.specs.Forms.{forms, In, full_of, half_of, signed, if_signed, with_rm, plain, alu_byte, if_reg, if_acc, not_one, number_only, mov_load, mov_store, short_step, unit, imul_by_forms, xchg_short, other_reg}
+use Rattle.x86_grammar.specs.Forms.{forms, In, alu_byte, number_only, mov_load, mov_store, short_step, unit, imul_by_forms, xchg_short, other_reg}
+use Rattle.x86_grammar.specs.Parts.{full_of, half_of, signed, if_signed, with_rm, plain, if_reg, if_acc, not_one}
 
 abbrev pub rm_or : Option Rm → Rm → Rm
 rm_or None m = m

@@ -1,6 +1,6 @@
 -- A reader from left to right gives at each spelling its instruction, whatever follows.
-use Rattle.std.proofs.Common.{◌≡◌, ℕ, ◌+◌, ◌-◌, ◌/◌, ◌%◌, ◌^◌, ◌<◌, Bool, true, false, cond, ltb, eqb, ◌&&◌, ◌||◌, List, [], ◌∷◌, ◌++◌, length, take, drop, Option, Some, None, lit<, refl, sym, ap, subst, ◌∙◌, append_assoc, arith, length-append}
-use Rattle.std.proofs.lemmas.Bool.{false≢true, ltb-false, eqb-true}
+use Rattle.std.proofs.Common.{◌≡◌, ℕ, ◌+◌, ◌-◌, ◌/◌, ◌%◌, ◌^◌, ◌<◌, Bool, true, false, cond, ltb, leb, eqb, ◌&&◌, ◌||◌, List, [], ◌∷◌, ◌++◌, length, take, drop, Option, Some, None, lit<, refl, sym, ap, subst, ◌∙◌, append_assoc, arith, length-append}
+use Rattle.std.proofs.lemmas.Bool.{false≢true, ltb-false, eqb-true, le-leb}
 use Rattle.std.proofs.lemmas.List.{drop_at, take_at}
 use Rattle.std.specs.Prelude.{IfSome}
 use Rattle.std.specs.List.{AllByRecursion}
@@ -14,7 +14,8 @@ use Rattle.x86_grammar.specs.declared.row.Counts.{Counts}
 use Rattle.x86_grammar.specs.declared.row.Entry.{Entry}
 use Rattle.x86_grammar.specs.declared.row.Entry.TheVariants as entry
 use Rattle.x86_grammar.specs.Table.{entry_of, row_in, row_at}
-use Rattle.x86_grammar.specs.Rows.{key_of, has_operand, imm_size}
+use Rattle.x86_grammar.specs.Rows.{key_of, has_operand}
+use Rattle.x86_grammar.specs.Attributes.{imm_size}
 use Rattle.x86_grammar.specs.Meaning.{build}
 use Rattle.x86_grammar.specs.Forms.{forms}
 use Rattle.x86_grammar.specs.Operand.{le, from_le, has_sib, disp_size, rm_of, sibs, operand_bytes}
@@ -33,7 +34,7 @@ found None rest = Never
 found (Some i) rest = Found i rest
 
 unfoldable pub numbers : Row → Counts → ℕ → ℕ → ℕ → List ℕ → Seen
-numbers r c m s size bytes = cond (prefixes_fit r c) (found (build r (half_in r c) (eqb c.repeats 1) (m / 8 % 8) (rm_of m s (from_le size bytes)) (from_le (imm_size r (half_in r c)) (drop size bytes))) (drop (imm_size r (half_in r c)) (drop size bytes))) Never
+numbers r c m s size bytes = cond (prefixes_fit r c && leb (size + imm_size r (half_in r c)) (length bytes)) (found (build r (half_in r c) (eqb c.repeats 1) (m / 8 % 8) (rm_of m s (from_le size bytes)) (from_le (imm_size r (half_in r c)) (drop size bytes))) (drop (imm_size r (half_in r c)) (drop size bytes))) Never
 
 unfoldable pub sib_at : Row → Counts → ℕ → List ℕ → Seen
 sib_at r c m [] = Never
@@ -85,7 +86,11 @@ module _ (r : Row) (c : Counts) (m s : ℕ) (p : prefixes_fit r c ≡ true) wher
       let dr : drop size (le size d ++ (le isz v ++ rest)) ≡ le isz v ++ rest = drop_at (le size d) (le isz v ++ rest) size (length-le size d) in
       let fv : from_le isz (le isz v ++ rest) ≡ v = from_le-le isz v rest vlt in
       let dv : drop isz (le isz v ++ rest) ≡ rest = drop_at (le isz v) rest isz (length-le isz v) in
-      ap (numbers r c m s size) (append_assoc (le size d) (le isz v) rest) ∙ rw (p, fd, dr, fv, dv, b) refl
+      let ld = length-le size d in
+      let lv = length-le isz v in
+      let all : length (le size d ++ (le isz v ++ rest)) ≡ size + isz + length rest = simp length-append (omega arith) in
+      let long : leb (size + isz) (length (le size d ++ (le isz v ++ rest))) ≡ true = le-leb _ _ (omega arith) in
+      ap (numbers r c m s size) (append_assoc (le size d) (le isz v) rest) ∙ rw (p, long, fd, dr, fv, dv, b) refl
 
 -- ---- ModRM and SIB
 

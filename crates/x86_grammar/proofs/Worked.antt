@@ -18,7 +18,8 @@ use Rattle.x86_types.specs.declared.instr.Instr.{Instr}
 use Rattle.x86_types.specs.declared.instr.Instr.TheVariants as instr
 use Rattle.x86_grammar.specs.declared.row.Form.{Form}
 use Rattle.x86_grammar.specs.Table.{entry_of}
-use Rattle.x86_grammar.specs.Rows.{has_operand, imm_size}
+use Rattle.x86_grammar.specs.Rows.{has_operand}
+use Rattle.x86_grammar.specs.Attributes.{imm_size}
 use Rattle.x86_grammar.specs.Forms.{forms, In}
 use Rattle.x86_grammar.specs.Operand.{Operand, IsOperand, has_sib, disp_size, rm_of}
 use Rattle.x86_grammar.specs.Spells.{is_prefix, counts_of, prefixes_fit, half_in, bytes_of, Spells}

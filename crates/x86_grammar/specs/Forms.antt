@@ -1,6 +1,6 @@
 -- Each instruction's spellings: one form for each entry of the manual's list. Each group begins with the
 -- pages of Intel SDM volume 2 that list its opcodes.
-use Rattle.std.specs.Prelude.{◌≡◌, ℕ, zero, suc, ◌+◌, ◌-◌, ◌%◌, ◌^◌, Bool, true, false, if◌then◌else◌, nat_lt, ◌==◌, List, [], ◌∷◌, ◌++◌, Option, Some, None, ◌⊎◌}
+use Rattle.std.specs.Prelude.{◌≡◌, ℕ, zero, suc, Bool, true, if◌then◌else◌, ◌==◌, List, [], ◌∷◌, ◌++◌, Option, Some, None, ◌⊎◌}
 use Rattle.x86_types.specs.declared.operand.Reg.{Reg}
 use Rattle.x86_types.specs.declared.operand.Reg.TheVariants.{Eax}
 use Rattle.x86_types.specs.declared.operation.AluOp.{AluOp}
@@ -16,51 +16,11 @@ use Rattle.x86_types.specs.declared.operand.Src.{Src}
 use Rattle.x86_types.specs.declared.operand.Src.TheVariants as src
 use Rattle.x86_types.specs.declared.instr.Instr.{Instr}
 use Rattle.x86_types.specs.declared.instr.Instr.TheVariants as instr
-use Rattle.x86_types.specs.Numbers.{size_of, number_of_reg, number_of_alu, number_of_shift}
+use Rattle.x86_types.specs.Numbers.{number_of_reg, number_of_alu, number_of_shift}
 use Rattle.x86_grammar.specs.declared.row.Form.{Form}
 use Rattle.x86_grammar.specs.declared.row.Row.{Row}
 use Rattle.x86_grammar.specs.declared.row.Row.TheVariants as row
-
-abbrev pub full_of : Width → Bool
-full_of One = false
-full_of _ = true
-
-abbrev pub half_of : Width → Bool
-half_of Two = true
-half_of _ = false
-
--- a byte with its sign, at the width
-abbrev pub signed : Width → ℕ → ℕ
-signed w b = if nat_lt b 128 then b else b + (256 ^ size_of w - 256)
-
--- ---- parts of the lists
-
--- a row with ModRM: the middle field, the operand, and the number at the end
-abbrev pub with_rm : Row → Width → ℕ → Rm → ℕ → Form
-with_rm r w n m v = record { row = r; half = half_of w; rep = false; middle = n; rm = Some m; imm = v }
-
-abbrev pub plain : Row → Width → ℕ → Form
-plain r w v = record { row = r; half = half_of w; rep = false; middle = 0; rm = None; imm = v }
-
--- with F3 where it is true
-abbrev pub repeated : Row → Width → Bool → ℕ → Form
-repeated r w p v = record { row = r; half = half_of w; rep = p; middle = 0; rm = None; imm = v }
-
--- the byte that is the number with its sign, where one is
-abbrev pub if_signed : Width → ℕ → (ℕ → Form) → List Form
-if_signed w v f = if signed w (v % 256) == v then f (v % 256) ∷ [] else []
-
-abbrev pub if_reg : Rm → (Reg → List Form) → List Form
-if_reg (rm.Reg r) f = f r
-if_reg (rm.Mem a) f = []
-
-abbrev pub if_acc : Rm → Form → List Form
-if_acc (rm.Reg Eax) f = f ∷ []
-if_acc _ f = []
-
-abbrev pub not_one : Width → List Form → List Form
-not_one One fs = []
-not_one w fs = fs
+use Rattle.x86_grammar.specs.Parts.{full_of, with_rm, plain, repeated, if_signed, if_reg, if_acc, not_one}
 
 -- "ADC", "ADD", "AND", "CMP", "OR", "SBB", "SUB", "XOR"
 abbrev pub alu_byte : Width → AluOp → Rm → ℕ → List Form

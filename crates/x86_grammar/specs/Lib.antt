@@ -1,7 +1,9 @@
+pub mod Attributes
 pub mod Fields
 pub mod Forms
 pub mod Meaning
 pub mod Operand
+pub mod Parts
 pub mod Rows
 pub mod Spells
 pub mod Table

@@ -16,8 +16,8 @@ use Rattle.x86_types.specs.declared.instr.Instr.TheVariants as instr
 use Rattle.x86_types.specs.Numbers.{reg_of, alu_of}
 use Rattle.x86_grammar.specs.declared.row.Row.{Row}
 use Rattle.x86_grammar.specs.declared.row.Row.TheVariants as row
-use Rattle.x86_grammar.specs.Rows.{width_of}
-use Rattle.x86_grammar.specs.Forms.{signed}
+use Rattle.x86_grammar.specs.Attributes.{width_of}
+use Rattle.x86_grammar.specs.Parts.{signed}
 
 abbrev pub src_of : Rm → Src
 src_of (rm.Reg r) = src.Reg r

@@ -7,7 +7,7 @@ use Rattle.x86_types.specs.declared.operand.Rm.{Rm}
 use Rattle.x86_types.specs.declared.operand.Rm.TheVariants as rm
 use Rattle.x86_types.specs.declared.width.Width.TheVariants.{Four}
 use Rattle.x86_types.specs.Numbers.{reg_of}
-use Rattle.x86_grammar.specs.Forms.{signed}
+use Rattle.x86_grammar.specs.Parts.{signed}
 
 -- a number in that many bytes, the lowest first
 abbrev pub le : ℕ → ℕ → List ℕ

@@ -5,7 +5,8 @@ use Rattle.x86_types.specs.declared.instr.Instr.{Instr}
 use Rattle.x86_grammar.specs.declared.row.Form.{Form}
 use Rattle.x86_grammar.specs.declared.row.Row.{Row}
 use Rattle.x86_grammar.specs.declared.row.Counts.{Counts}
-use Rattle.x86_grammar.specs.Rows.{key_of, can_half, any_halves, any_segments, can_hint, rep_fits, has_operand, imm_size}
+use Rattle.x86_grammar.specs.Rows.{key_of, has_operand}
+use Rattle.x86_grammar.specs.Attributes.{can_half, any_halves, any_segments, can_hint, rep_fits, imm_size}
 use Rattle.x86_grammar.specs.Forms.{In, forms}
 use Rattle.x86_grammar.specs.Operand.{Operand, IsOperand, operand_bytes, rm_of, le}
 

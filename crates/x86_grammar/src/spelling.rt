@@ -8,8 +8,8 @@ use crate::fields::fields_fit;
 use x86_types::Instr;
 
 /// Whether some bytes spell the instruction. None do where a number doesn't fit its width, where
-/// an address has Esp as its index or another scale than 1, 2, 4 and 8, and at widths that the
-/// manual doesn't list.
+/// an address has Esp as its index or another scale than 1, 2, 4 and 8, where two operands stand in
+/// memory, and at widths that the list doesn't have.
 pub fn has_spelling(instr: &Instr) -> bool
     ensures exact { (result ≡ true) ↔ HasSpelling instr.now }
 {
@@ -24,9 +24,9 @@ pub fn no_spelling_begins_another()
 
 /// A spelling is a list of 1 to 15 bytes.
 pub fn spelling_is_short()
-    ensures short { (bytes : List ℕ) (i : Instr) → Spells bytes i → length bytes ≤ 15 }
-    ensures some { (bytes : List ℕ) (i : Instr) → Spells bytes i → 0 < length bytes }
-    ensures bytes { (bytes : List ℕ) (i : Instr) → Spells bytes i → AllByRecursion (λ b. b < 256) bytes }
+    ensures short { (bs : List ℕ) (i : Instr) → Spells bs i → length bs ≤ 15 }
+    ensures some { (bs : List ℕ) (i : Instr) → Spells bs i → 0 < length bs }
+    ensures bytes { (bs : List ℕ) (i : Instr) → Spells bs i → AllByRecursion (λ b. b < 256) bs }
 {}
 
 /// An instruction has a spelling exactly where its fields are in the ranges of its forms.

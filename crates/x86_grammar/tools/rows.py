@@ -1,9 +1,9 @@
 #!/usr/bin/env python3
 """The rows of the opcode map, and the files that follow from them alone.
 
-Run it in the crate's folder: it writes specs/Rows.antt,
-specs/Meaning.antt and proofs/Again.antt. The map itself, src/opcode_map.rt, is written by hand, and
-proofs/Again.antt checks it against this list.
+Run it in the crate's folder: it writes specs/Rows.antt, specs/Attributes.antt, specs/Meaning.antt
+and proofs/Again.antt. With the word "enum" it prints the variants of Row. The map itself,
+src/opcode_map.rt, is written by hand, and proofs/Again.antt checks it against this list.
 """
 
 # name, payload (o: operation, s: shift, f: width One or not, r: register, c: condition),
@@ -139,28 +139,17 @@ def rust_enum():
     return "\n".join(lines)
 
 
-ROWS_HEAD = """-- What each row of the opcode map says of its bytes. The opcode is a number: 256 stands for 0F before
--- the byte. Intel SDM volume 2, appendix A, tables A-2, A-3 and A-6.
-use Rattle.std.specs.Prelude.{ℕ, ◌+◌, ◌*◌, Bool, true, false, not, ◌==◌}
+ROWS_HEAD = """-- The opcode of each row, its middle field, and whether ModRM stands. The opcode is a number: 256 stands
+-- for 0F before the byte. Intel SDM volume 2, appendix A, tables A-2, A-3 and A-6.
+use Rattle.std.specs.Prelude.{ℕ, ◌+◌, ◌*◌, Bool, true, false, ◌==◌}
 use Rattle.x86_types.specs.declared.operand.Reg.TheVariants as reg
-use Rattle.x86_types.specs.declared.width.Width.{Width}
-use Rattle.x86_types.specs.declared.width.Width.TheVariants.{One, Two, Four}
-use Rattle.x86_types.specs.Numbers.{size_of, number_of_reg, number_of_alu, number_of_shift, number_of_cond}
+use Rattle.x86_types.specs.Numbers.{number_of_reg, number_of_alu, number_of_shift, number_of_cond}
 use Rattle.x86_grammar.specs.declared.row.Row.{Row}
 use Rattle.x86_grammar.specs.declared.row.Row.TheVariants as row
 
 abbrev pub bit : Bool → ℕ
 bit false = 0
 bit true = 1
-
--- the width of an opcode
-abbrev pub width_of : Bool → Bool → Width
-width_of false half = One
-width_of true true = Two
-width_of true false = Four
-
-abbrev pub wide_size : Bool → Bool → ℕ
-wide_size full half = size_of (width_of full half)
 """
 
 
@@ -182,8 +171,31 @@ def rows_spec():
             "fits_middle Nowhere n = false", "", "-- whether ModRM stands behind it",
             "abbrev pub has_operand : Row → Bool"]
     out += [f"has_operand {pattern(r)} = true" for r in ROWS if r[4]]
-    out += ["has_operand _ = false", "", "-- where one 66 makes width Two",
-            "abbrev pub can_half : Row → Bool"]
+    return "\n".join(out + ["has_operand _ = false", ""])
+
+
+ATTRIBUTES_HEAD = """-- Which prefixes a row knows, its width, and how long its number is. Intel SDM volume 2, section 2.1.1 and
+-- the pages that Forms names; which prefixes may stand is this project's own rule.
+use Rattle.std.specs.Prelude.{ℕ, Bool, true, false, not}
+use Rattle.x86_types.specs.declared.width.Width.{Width}
+use Rattle.x86_types.specs.declared.width.Width.TheVariants.{One, Two, Four}
+use Rattle.x86_types.specs.Numbers.{size_of}
+use Rattle.x86_grammar.specs.declared.row.Row.{Row}
+use Rattle.x86_grammar.specs.declared.row.Row.TheVariants as row
+
+-- the width of an opcode
+abbrev pub width_of : Bool → Bool → Width
+width_of false half = One
+width_of true true = Two
+width_of true false = Four
+
+abbrev pub wide_size : Bool → Bool → ℕ
+wide_size full half = size_of (width_of full half)
+"""
+
+
+def attributes_spec():
+    out = [ATTRIBUTES_HEAD, "-- where one 66 makes width Two", "abbrev pub can_half : Row → Bool"]
     out += [f"can_half {pattern(r)} = {r[5]}" for r in ROWS if r[5] != "false"]
     out += ["can_half _ = false", "", "-- the bytes of the number at the end",
             "abbrev pub imm_size : Row → Bool → ℕ"]
@@ -222,8 +234,8 @@ use Rattle.x86_types.specs.declared.instr.Instr.TheVariants as instr
 use Rattle.x86_types.specs.Numbers.{reg_of, alu_of}
 use Rattle.x86_grammar.specs.declared.row.Row.{Row}
 use Rattle.x86_grammar.specs.declared.row.Row.TheVariants as row
-use Rattle.x86_grammar.specs.Rows.{width_of}
-use Rattle.x86_grammar.specs.Forms.{signed}
+use Rattle.x86_grammar.specs.Attributes.{width_of}
+use Rattle.x86_grammar.specs.Parts.{signed}
 
 abbrev pub src_of : Rm → Src
 src_of (rm.Reg r) = src.Reg r
@@ -285,5 +297,6 @@ if __name__ == "__main__":
         print(rust_enum())
     else:
         open("specs/Rows.antt", "w").write(rows_spec())
+        open("specs/Attributes.antt", "w").write(attributes_spec())
         open("specs/Meaning.antt", "w").write(meaning_spec())
         open("proofs/Again.antt", "w").write(again_proof())
