@@ -1,12 +1,10 @@
 -- Worked spellings of each row of the list, by the manual's pages, and bytes that spell nothing. Each is
 -- computed by the checker.
-use Rattle.std.proofs.Common.{◌≡◌, ℕ, ◌/◌, ◌%◌, ◌^◌, Bool, true, false, not, ltb, leb, eqb, ◌&&◌, ◌||◌, List, [], ◌∷◌, ◌++◌, length, Option, Some, None, inl, inr, refl, sym, ap, ◌∙◌}
+use Rattle.std.proofs.Common.{◌≡◌, ℕ, ◌/◌, ◌%◌, ◌^◌, Bool, true, false, not, ltb, leb, eqb, ◌&&◌, ◌||◌, List, [], ◌∷◌, ◌++◌, length, Some, None, inl, inr, refl, sym, ap, ◌∙◌}
 use Rattle.std.proofs.lemmas.Bool.{ltb-true, leb-true, eqb-true, false≢true}
 use Rattle.std.specs.Prelude.{IfSome}
 use Rattle.std.specs.List.{AllByRecursion}
-use Rattle.x86_types.specs.declared.operand.Reg.{Reg}
 use Rattle.x86_types.specs.declared.operand.Reg.TheVariants as reg
-use Rattle.x86_types.specs.declared.operand.Address.{Address}
 use Rattle.x86_types.specs.declared.operand.Rm.TheVariants as rm
 use Rattle.x86_types.specs.declared.operand.Src.TheVariants as src
 use Rattle.x86_types.specs.declared.operation.AluOp.TheVariants as alu
@@ -23,14 +21,12 @@ use Rattle.x86_grammar.specs.Attributes.{imm_size}
 use Rattle.x86_grammar.specs.Forms.{forms, In}
 use Rattle.x86_grammar.specs.Operand.{Operand, IsOperand, has_sib, disp_size, rm_of}
 use Rattle.x86_grammar.specs.Spells.{is_prefix, counts_of, prefixes_fit, half_in, bytes_of, Spells}
+use Rattle.x86_grammar.specs.Worked.{at, AllSpelled, NoneSpelled}
 use Rattle.x86_grammar.proofs.Map.{and_left, and_right}
 use Rattle.x86_grammar.proofs.Whole.{Found, Never, numbers, sib_at, after_m, m_at, after_opcode, after_escape, at_opcode, read_from, read, spells_whole}
 
 abbrev operand : ℕ → ℕ → ℕ → Operand
 operand m s d = record { m = m; sib = s; disp = d }
-
-abbrev at : Option Reg → Option Reg → ℕ → ℕ → Address
-at b x s d = record { base = b; index = x; scale = s; disp = d }
 
 abbrev all_prefixes : List ℕ → Bool
 all_prefixes [] = true
@@ -139,285 +135,305 @@ spelled_9 = spelled ([]) _ (operand 0 0 0) _ (inr (inl refl)) tt refl
 spelled_10 : Spells (102 ∷ 163 ∷ 0 ∷ 160 ∷ 4 ∷ 8 ∷ []) (instr.Mov Two (rm.Mem (at None None 1 134520832)) (src.Reg reg.Eax))
 spelled_10 = spelled (102 ∷ []) _ (operand 0 0 0) _ (inr (inl refl)) tt refl
 
+-- 8B 44 8D FC
+spelled_11 : Spells (139 ∷ 68 ∷ 141 ∷ 252 ∷ []) (instr.Mov Four (rm.Reg reg.Eax) (src.Mem (at (Some reg.Ebp) (Some reg.Ecx) 4 4294967292)))
+spelled_11 = spelled ([]) _ (operand 68 141 252) _ (inl refl) refl refl
+
+-- 8B 04 64
+spelled_12 : Spells (139 ∷ 4 ∷ 100 ∷ []) (instr.Mov Four (rm.Reg reg.Eax) (src.Mem (at (Some reg.Esp) None 1 0)))
+spelled_12 = spelled ([]) _ (operand 4 100 0) _ (inl refl) refl refl
+
+-- 66 B8 34 12
+spelled_13 : Spells (102 ∷ 184 ∷ 52 ∷ 18 ∷ []) (instr.Mov Two (rm.Reg reg.Eax) (src.Imm 4660))
+spelled_13 = spelled (102 ∷ []) _ (operand 0 0 0) _ (inr (inl refl)) tt refl
+
+-- B4 01
+spelled_14 : Spells (180 ∷ 1 ∷ []) (instr.Mov One (rm.Reg reg.Esp) (src.Imm 1))
+spelled_14 = spelled ([]) _ (operand 0 0 0) _ (inr (inl refl)) tt refl
+
 -- 8D 04 8D 00 00 00 00
-spelled_11 : Spells (141 ∷ 4 ∷ 141 ∷ 0 ∷ 0 ∷ 0 ∷ 0 ∷ []) (instr.Lea Four reg.Eax (at None (Some reg.Ecx) 4 0))
-spelled_11 = spelled ([]) _ (operand 4 141 0) _ (inl refl) refl refl
+spelled_15 : Spells (141 ∷ 4 ∷ 141 ∷ 0 ∷ 0 ∷ 0 ∷ 0 ∷ []) (instr.Lea Four reg.Eax (at None (Some reg.Ecx) 4 0))
+spelled_15 = spelled ([]) _ (operand 4 141 0) _ (inl refl) refl refl
 
 -- 2E 66 2E 8D 41 01
-spelled_12 : Spells (46 ∷ 102 ∷ 46 ∷ 141 ∷ 65 ∷ 1 ∷ []) (instr.Lea Two reg.Eax (at (Some reg.Ecx) None 1 1))
-spelled_12 = spelled (46 ∷ 102 ∷ 46 ∷ []) _ (operand 65 0 1) _ (inl refl) refl refl
+spelled_16 : Spells (46 ∷ 102 ∷ 46 ∷ 141 ∷ 65 ∷ 1 ∷ []) (instr.Lea Two reg.Eax (at (Some reg.Ecx) None 1 1))
+spelled_16 = spelled (46 ∷ 102 ∷ 46 ∷ []) _ (operand 65 0 1) _ (inl refl) refl refl
 
 -- 40
-spelled_13 : Spells (64 ∷ []) (instr.Inc Four (rm.Reg reg.Eax))
-spelled_13 = spelled ([]) _ (operand 0 0 0) _ (inr (inl refl)) tt refl
+spelled_17 : Spells (64 ∷ []) (instr.Inc Four (rm.Reg reg.Eax))
+spelled_17 = spelled ([]) _ (operand 0 0 0) _ (inr (inl refl)) tt refl
 
 -- FE 00
-spelled_14 : Spells (254 ∷ 0 ∷ []) (instr.Inc One (rm.Mem (at (Some reg.Eax) None 1 0)))
-spelled_14 = spelled ([]) _ (operand 0 0 0) _ (inl refl) refl refl
+spelled_18 : Spells (254 ∷ 0 ∷ []) (instr.Inc One (rm.Mem (at (Some reg.Eax) None 1 0)))
+spelled_18 = spelled ([]) _ (operand 0 0 0) _ (inl refl) refl refl
 
 -- 66 4F
-spelled_15 : Spells (102 ∷ 79 ∷ []) (instr.Dec Two (rm.Reg reg.Edi))
-spelled_15 = spelled (102 ∷ []) _ (operand 0 0 0) _ (inr (inl refl)) tt refl
+spelled_19 : Spells (102 ∷ 79 ∷ []) (instr.Dec Two (rm.Reg reg.Edi))
+spelled_19 = spelled (102 ∷ []) _ (operand 0 0 0) _ (inr (inl refl)) tt refl
 
 -- FF 0D 00 00 00 10
-spelled_16 : Spells (255 ∷ 13 ∷ 0 ∷ 0 ∷ 0 ∷ 16 ∷ []) (instr.Dec Four (rm.Mem (at None None 1 268435456)))
-spelled_16 = spelled ([]) _ (operand 13 0 268435456) _ (inl refl) refl refl
+spelled_20 : Spells (255 ∷ 13 ∷ 0 ∷ 0 ∷ 0 ∷ 16 ∷ []) (instr.Dec Four (rm.Mem (at None None 1 268435456)))
+spelled_20 = spelled ([]) _ (operand 13 0 268435456) _ (inl refl) refl refl
 
 -- F6 D4
-spelled_17 : Spells (246 ∷ 212 ∷ []) (instr.Not One (rm.Reg reg.Esp))
-spelled_17 = spelled ([]) _ (operand 212 0 0) _ (inl refl) refl refl
+spelled_21 : Spells (246 ∷ 212 ∷ []) (instr.Not One (rm.Reg reg.Esp))
+spelled_21 = spelled ([]) _ (operand 212 0 0) _ (inl refl) refl refl
 
 -- 66 F7 D0
-spelled_18 : Spells (102 ∷ 247 ∷ 208 ∷ []) (instr.Not Two (rm.Reg reg.Eax))
-spelled_18 = spelled (102 ∷ []) _ (operand 208 0 0) _ (inl refl) refl refl
+spelled_22 : Spells (102 ∷ 247 ∷ 208 ∷ []) (instr.Not Two (rm.Reg reg.Eax))
+spelled_22 = spelled (102 ∷ []) _ (operand 208 0 0) _ (inl refl) refl refl
 
 -- F7 D8
-spelled_19 : Spells (247 ∷ 216 ∷ []) (instr.Neg Four (rm.Reg reg.Eax))
-spelled_19 = spelled ([]) _ (operand 216 0 0) _ (inl refl) refl refl
+spelled_23 : Spells (247 ∷ 216 ∷ []) (instr.Neg Four (rm.Reg reg.Eax))
+spelled_23 = spelled ([]) _ (operand 216 0 0) _ (inl refl) refl refl
 
 -- F6 18
-spelled_20 : Spells (246 ∷ 24 ∷ []) (instr.Neg One (rm.Mem (at (Some reg.Eax) None 1 0)))
-spelled_20 = spelled ([]) _ (operand 24 0 0) _ (inl refl) refl refl
+spelled_24 : Spells (246 ∷ 24 ∷ []) (instr.Neg One (rm.Mem (at (Some reg.Eax) None 1 0)))
+spelled_24 = spelled ([]) _ (operand 24 0 0) _ (inl refl) refl refl
 
 -- F7 E1
-spelled_21 : Spells (247 ∷ 225 ∷ []) (instr.Mul Four (rm.Reg reg.Ecx))
-spelled_21 = spelled ([]) _ (operand 225 0 0) _ (inl refl) refl refl
+spelled_25 : Spells (247 ∷ 225 ∷ []) (instr.Mul Four (rm.Reg reg.Ecx))
+spelled_25 = spelled ([]) _ (operand 225 0 0) _ (inl refl) refl refl
 
 -- 66 F7 E9
-spelled_22 : Spells (102 ∷ 247 ∷ 233 ∷ []) (instr.ImulWide Two (rm.Reg reg.Ecx))
-spelled_22 = spelled (102 ∷ []) _ (operand 233 0 0) _ (inl refl) refl refl
+spelled_26 : Spells (102 ∷ 247 ∷ 233 ∷ []) (instr.ImulWide Two (rm.Reg reg.Ecx))
+spelled_26 = spelled (102 ∷ []) _ (operand 233 0 0) _ (inl refl) refl refl
 
 -- F6 F1
-spelled_23 : Spells (246 ∷ 241 ∷ []) (instr.Div One (rm.Reg reg.Ecx))
-spelled_23 = spelled ([]) _ (operand 241 0 0) _ (inl refl) refl refl
+spelled_27 : Spells (246 ∷ 241 ∷ []) (instr.Div One (rm.Reg reg.Ecx))
+spelled_27 = spelled ([]) _ (operand 241 0 0) _ (inl refl) refl refl
 
 -- F7 F9
-spelled_24 : Spells (247 ∷ 249 ∷ []) (instr.Idiv Four (rm.Reg reg.Ecx))
-spelled_24 = spelled ([]) _ (operand 249 0 0) _ (inl refl) refl refl
+spelled_28 : Spells (247 ∷ 249 ∷ []) (instr.Idiv Four (rm.Reg reg.Ecx))
+spelled_28 = spelled ([]) _ (operand 249 0 0) _ (inl refl) refl refl
 
 -- 0F AF C1
-spelled_25 : Spells (15 ∷ 175 ∷ 193 ∷ []) (instr.Imul Four reg.Eax (rm.Reg reg.Ecx))
-spelled_25 = spelled ([]) _ (operand 193 0 0) _ (inl refl) refl refl
+spelled_29 : Spells (15 ∷ 175 ∷ 193 ∷ []) (instr.Imul Four reg.Eax (rm.Reg reg.Ecx))
+spelled_29 = spelled ([]) _ (operand 193 0 0) _ (inl refl) refl refl
 
 -- 66 0F AF 01
-spelled_26 : Spells (102 ∷ 15 ∷ 175 ∷ 1 ∷ []) (instr.Imul Two reg.Eax (rm.Mem (at (Some reg.Ecx) None 1 0)))
-spelled_26 = spelled (102 ∷ []) _ (operand 1 0 0) _ (inl refl) refl refl
+spelled_30 : Spells (102 ∷ 15 ∷ 175 ∷ 1 ∷ []) (instr.Imul Two reg.Eax (rm.Mem (at (Some reg.Ecx) None 1 0)))
+spelled_30 = spelled (102 ∷ []) _ (operand 1 0 0) _ (inl refl) refl refl
 
 -- 69 C1 E8 03 00 00
-spelled_27 : Spells (105 ∷ 193 ∷ 232 ∷ 3 ∷ 0 ∷ 0 ∷ []) (instr.ImulBy Four reg.Eax (rm.Reg reg.Ecx) 1000)
-spelled_27 = spelled ([]) _ (operand 193 0 0) _ (inl refl) refl refl
+spelled_31 : Spells (105 ∷ 193 ∷ 232 ∷ 3 ∷ 0 ∷ 0 ∷ []) (instr.ImulBy Four reg.Eax (rm.Reg reg.Ecx) 1000)
+spelled_31 = spelled ([]) _ (operand 193 0 0) _ (inl refl) refl refl
 
 -- 66 6B C1 80
-spelled_28 : Spells (102 ∷ 107 ∷ 193 ∷ 128 ∷ []) (instr.ImulBy Two reg.Eax (rm.Reg reg.Ecx) 65408)
-spelled_28 = spelled (102 ∷ []) _ (operand 193 0 0) _ (inr (inl refl)) refl refl
+spelled_32 : Spells (102 ∷ 107 ∷ 193 ∷ 128 ∷ []) (instr.ImulBy Two reg.Eax (rm.Reg reg.Ecx) 65408)
+spelled_32 = spelled (102 ∷ []) _ (operand 193 0 0) _ (inr (inl refl)) refl refl
 
 -- C1 E0 05
-spelled_29 : Spells (193 ∷ 224 ∷ 5 ∷ []) (instr.Shift shift.Shl Four (rm.Reg reg.Eax) (count.Imm 5))
-spelled_29 = spelled ([]) _ (operand 224 0 0) _ (inl refl) refl refl
+spelled_33 : Spells (193 ∷ 224 ∷ 5 ∷ []) (instr.Shift shift.Shl Four (rm.Reg reg.Eax) (count.Imm 5))
+spelled_33 = spelled ([]) _ (operand 224 0 0) _ (inl refl) refl refl
 
 -- 66 D1 F8
-spelled_30 : Spells (102 ∷ 209 ∷ 248 ∷ []) (instr.Shift shift.Sar Two (rm.Reg reg.Eax) (count.Imm 1))
-spelled_30 = spelled (102 ∷ []) _ (operand 248 0 0) _ (inr (inl refl)) refl refl
+spelled_34 : Spells (102 ∷ 209 ∷ 248 ∷ []) (instr.Shift shift.Sar Two (rm.Reg reg.Eax) (count.Imm 1))
+spelled_34 = spelled (102 ∷ []) _ (operand 248 0 0) _ (inr (inl refl)) refl refl
 
 -- D2 C8
-spelled_31 : Spells (210 ∷ 200 ∷ []) (instr.Shift shift.Ror One (rm.Reg reg.Eax) count.Cl)
-spelled_31 = spelled ([]) _ (operand 200 0 0) _ (inl refl) refl refl
-
--- 0F A4 C8 03
-spelled_32 : Spells (15 ∷ 164 ∷ 200 ∷ 3 ∷ []) (instr.Shld (rm.Reg reg.Eax) reg.Ecx (count.Imm 3))
-spelled_32 = spelled ([]) _ (operand 200 0 0) _ (inl refl) refl refl
-
--- 0F A5 C8
-spelled_33 : Spells (15 ∷ 165 ∷ 200 ∷ []) (instr.Shld (rm.Reg reg.Eax) reg.Ecx count.Cl)
-spelled_33 = spelled ([]) _ (operand 200 0 0) _ (inl refl) refl refl
-
--- 0F AC C8 03
-spelled_34 : Spells (15 ∷ 172 ∷ 200 ∷ 3 ∷ []) (instr.Shrd (rm.Reg reg.Eax) reg.Ecx (count.Imm 3))
-spelled_34 = spelled ([]) _ (operand 200 0 0) _ (inl refl) refl refl
-
--- 0F AD C8
-spelled_35 : Spells (15 ∷ 173 ∷ 200 ∷ []) (instr.Shrd (rm.Reg reg.Eax) reg.Ecx count.Cl)
+spelled_35 : Spells (210 ∷ 200 ∷ []) (instr.Shift shift.Ror One (rm.Reg reg.Eax) count.Cl)
 spelled_35 = spelled ([]) _ (operand 200 0 0) _ (inl refl) refl refl
 
+-- 0F A4 C8 03
+spelled_36 : Spells (15 ∷ 164 ∷ 200 ∷ 3 ∷ []) (instr.Shld (rm.Reg reg.Eax) reg.Ecx (count.Imm 3))
+spelled_36 = spelled ([]) _ (operand 200 0 0) _ (inl refl) refl refl
+
+-- 0F A5 C8
+spelled_37 : Spells (15 ∷ 165 ∷ 200 ∷ []) (instr.Shld (rm.Reg reg.Eax) reg.Ecx count.Cl)
+spelled_37 = spelled ([]) _ (operand 200 0 0) _ (inl refl) refl refl
+
+-- 0F AC C8 03
+spelled_38 : Spells (15 ∷ 172 ∷ 200 ∷ 3 ∷ []) (instr.Shrd (rm.Reg reg.Eax) reg.Ecx (count.Imm 3))
+spelled_38 = spelled ([]) _ (operand 200 0 0) _ (inl refl) refl refl
+
+-- 0F AD C8
+spelled_39 : Spells (15 ∷ 173 ∷ 200 ∷ []) (instr.Shrd (rm.Reg reg.Eax) reg.Ecx count.Cl)
+spelled_39 = spelled ([]) _ (operand 200 0 0) _ (inl refl) refl refl
+
 -- 55
-spelled_36 : Spells (85 ∷ []) (instr.Push (src.Reg reg.Ebp))
-spelled_36 = spelled ([]) _ (operand 0 0 0) _ (inr (inl refl)) tt refl
+spelled_40 : Spells (85 ∷ []) (instr.Push (src.Reg reg.Ebp))
+spelled_40 = spelled ([]) _ (operand 0 0 0) _ (inr (inl refl)) tt refl
 
 -- 6A FF
-spelled_37 : Spells (106 ∷ 255 ∷ []) (instr.Push (src.Imm 4294967295))
-spelled_37 = spelled ([]) _ (operand 0 0 0) _ (inr (inl refl)) tt refl
+spelled_41 : Spells (106 ∷ 255 ∷ []) (instr.Push (src.Imm 4294967295))
+spelled_41 = spelled ([]) _ (operand 0 0 0) _ (inr (inl refl)) tt refl
 
 -- FF 74 24 08
-spelled_38 : Spells (255 ∷ 116 ∷ 36 ∷ 8 ∷ []) (instr.Push (src.Mem (at (Some reg.Esp) None 1 8)))
-spelled_38 = spelled ([]) _ (operand 116 36 8) _ (inl refl) refl refl
+spelled_42 : Spells (255 ∷ 116 ∷ 36 ∷ 8 ∷ []) (instr.Push (src.Mem (at (Some reg.Esp) None 1 8)))
+spelled_42 = spelled ([]) _ (operand 116 36 8) _ (inl refl) refl refl
 
 -- 5D
-spelled_39 : Spells (93 ∷ []) (instr.Pop (rm.Reg reg.Ebp))
-spelled_39 = spelled ([]) _ (operand 0 0 0) _ (inr (inl refl)) tt refl
+spelled_43 : Spells (93 ∷ []) (instr.Pop (rm.Reg reg.Ebp))
+spelled_43 = spelled ([]) _ (operand 0 0 0) _ (inr (inl refl)) tt refl
 
 -- 8F 00
-spelled_40 : Spells (143 ∷ 0 ∷ []) (instr.Pop (rm.Mem (at (Some reg.Eax) None 1 0)))
-spelled_40 = spelled ([]) _ (operand 0 0 0) _ (inl refl) refl refl
+spelled_44 : Spells (143 ∷ 0 ∷ []) (instr.Pop (rm.Mem (at (Some reg.Eax) None 1 0)))
+spelled_44 = spelled ([]) _ (operand 0 0 0) _ (inl refl) refl refl
 
 -- 87 C8
-spelled_41 : Spells (135 ∷ 200 ∷ []) (instr.Xchg Four (rm.Reg reg.Eax) reg.Ecx)
-spelled_41 = spelled ([]) _ (operand 200 0 0) _ (inl refl) refl refl
+spelled_45 : Spells (135 ∷ 200 ∷ []) (instr.Xchg Four (rm.Reg reg.Eax) reg.Ecx)
+spelled_45 = spelled ([]) _ (operand 200 0 0) _ (inl refl) refl refl
 
 -- 66 97
-spelled_42 : Spells (102 ∷ 151 ∷ []) (instr.Xchg Two (rm.Reg reg.Eax) reg.Edi)
-spelled_42 = spelled (102 ∷ []) _ (operand 0 0 0) _ (inr (inl refl)) tt refl
+spelled_46 : Spells (102 ∷ 151 ∷ []) (instr.Xchg Two (rm.Reg reg.Eax) reg.Edi)
+spelled_46 = spelled (102 ∷ []) _ (operand 0 0 0) _ (inr (inl refl)) tt refl
 
 -- 0F B6 C1
-spelled_43 : Spells (15 ∷ 182 ∷ 193 ∷ []) (instr.Movzx Four One reg.Eax (rm.Reg reg.Ecx))
-spelled_43 = spelled ([]) _ (operand 193 0 0) _ (inl refl) refl refl
-
--- 0F B7 C1
-spelled_44 : Spells (15 ∷ 183 ∷ 193 ∷ []) (instr.Movzx Four Two reg.Eax (rm.Reg reg.Ecx))
-spelled_44 = spelled ([]) _ (operand 193 0 0) _ (inl refl) refl refl
-
--- 66 0F BE C1
-spelled_45 : Spells (102 ∷ 15 ∷ 190 ∷ 193 ∷ []) (instr.Movsx Two One reg.Eax (rm.Reg reg.Ecx))
-spelled_45 = spelled (102 ∷ []) _ (operand 193 0 0) _ (inl refl) refl refl
-
--- 0F BF 00
-spelled_46 : Spells (15 ∷ 191 ∷ 0 ∷ []) (instr.Movsx Four Two reg.Eax (rm.Mem (at (Some reg.Eax) None 1 0)))
-spelled_46 = spelled ([]) _ (operand 0 0 0) _ (inl refl) refl refl
-
--- 0F 44 C1
-spelled_47 : Spells (15 ∷ 68 ∷ 193 ∷ []) (instr.Cmov cond.E Four reg.Eax (rm.Reg reg.Ecx))
+spelled_47 : Spells (15 ∷ 182 ∷ 193 ∷ []) (instr.Movzx Four One reg.Eax (rm.Reg reg.Ecx))
 spelled_47 = spelled ([]) _ (operand 193 0 0) _ (inl refl) refl refl
 
+-- 0F B7 C1
+spelled_48 : Spells (15 ∷ 183 ∷ 193 ∷ []) (instr.Movzx Four Two reg.Eax (rm.Reg reg.Ecx))
+spelled_48 = spelled ([]) _ (operand 193 0 0) _ (inl refl) refl refl
+
+-- 66 0F BE C1
+spelled_49 : Spells (102 ∷ 15 ∷ 190 ∷ 193 ∷ []) (instr.Movsx Two One reg.Eax (rm.Reg reg.Ecx))
+spelled_49 = spelled (102 ∷ []) _ (operand 193 0 0) _ (inl refl) refl refl
+
+-- 0F BF 00
+spelled_50 : Spells (15 ∷ 191 ∷ 0 ∷ []) (instr.Movsx Four Two reg.Eax (rm.Mem (at (Some reg.Eax) None 1 0)))
+spelled_50 = spelled ([]) _ (operand 0 0 0) _ (inl refl) refl refl
+
+-- 0F 44 C1
+spelled_51 : Spells (15 ∷ 68 ∷ 193 ∷ []) (instr.Cmov cond.E Four reg.Eax (rm.Reg reg.Ecx))
+spelled_51 = spelled ([]) _ (operand 193 0 0) _ (inl refl) refl refl
+
 -- 66 0F 4F C1
-spelled_48 : Spells (102 ∷ 15 ∷ 79 ∷ 193 ∷ []) (instr.Cmov cond.G Two reg.Eax (rm.Reg reg.Ecx))
-spelled_48 = spelled (102 ∷ []) _ (operand 193 0 0) _ (inl refl) refl refl
+spelled_52 : Spells (102 ∷ 15 ∷ 79 ∷ 193 ∷ []) (instr.Cmov cond.G Two reg.Eax (rm.Reg reg.Ecx))
+spelled_52 = spelled (102 ∷ []) _ (operand 193 0 0) _ (inl refl) refl refl
 
 -- 0F 94 C0
-spelled_49 : Spells (15 ∷ 148 ∷ 192 ∷ []) (instr.Setcc cond.E (rm.Reg reg.Eax))
-spelled_49 = spelled ([]) _ (operand 192 0 0) _ (inl refl) refl refl
+spelled_53 : Spells (15 ∷ 148 ∷ 192 ∷ []) (instr.Setcc cond.E (rm.Reg reg.Eax))
+spelled_53 = spelled ([]) _ (operand 192 0 0) _ (inl refl) refl refl
 
 -- 0F 92 04 24
-spelled_50 : Spells (15 ∷ 146 ∷ 4 ∷ 36 ∷ []) (instr.Setcc cond.B (rm.Mem (at (Some reg.Esp) None 1 0)))
-spelled_50 = spelled ([]) _ (operand 4 36 0) _ (inl refl) refl refl
+spelled_54 : Spells (15 ∷ 146 ∷ 4 ∷ 36 ∷ []) (instr.Setcc cond.B (rm.Mem (at (Some reg.Esp) None 1 0)))
+spelled_54 = spelled ([]) _ (operand 4 36 0) _ (inl refl) refl refl
 
 -- 66 98
-spelled_51 : Spells (102 ∷ 152 ∷ []) (instr.Extend Two)
-spelled_51 = spelled (102 ∷ []) _ (operand 0 0 0) _ (inl refl) tt refl
+spelled_55 : Spells (102 ∷ 152 ∷ []) (instr.Extend Two)
+spelled_55 = spelled (102 ∷ []) _ (operand 0 0 0) _ (inl refl) tt refl
 
 -- 98
-spelled_52 : Spells (152 ∷ []) (instr.Extend Four)
-spelled_52 = spelled ([]) _ (operand 0 0 0) _ (inl refl) tt refl
+spelled_56 : Spells (152 ∷ []) (instr.Extend Four)
+spelled_56 = spelled ([]) _ (operand 0 0 0) _ (inl refl) tt refl
 
 -- 66 99
-spelled_53 : Spells (102 ∷ 153 ∷ []) (instr.Spread Two)
-spelled_53 = spelled (102 ∷ []) _ (operand 0 0 0) _ (inl refl) tt refl
+spelled_57 : Spells (102 ∷ 153 ∷ []) (instr.Spread Two)
+spelled_57 = spelled (102 ∷ []) _ (operand 0 0 0) _ (inl refl) tt refl
 
 -- 99
-spelled_54 : Spells (153 ∷ []) (instr.Spread Four)
-spelled_54 = spelled ([]) _ (operand 0 0 0) _ (inl refl) tt refl
-
--- 0F BC C1
-spelled_55 : Spells (15 ∷ 188 ∷ 193 ∷ []) (instr.Bsf Four reg.Eax (rm.Reg reg.Ecx))
-spelled_55 = spelled ([]) _ (operand 193 0 0) _ (inl refl) refl refl
-
--- 66 0F BD C1
-spelled_56 : Spells (102 ∷ 15 ∷ 189 ∷ 193 ∷ []) (instr.Bsr Two reg.Eax (rm.Reg reg.Ecx))
-spelled_56 = spelled (102 ∷ []) _ (operand 193 0 0) _ (inl refl) refl refl
-
--- 0F C8
-spelled_57 : Spells (15 ∷ 200 ∷ []) (instr.Bswap reg.Eax)
-spelled_57 = spelled ([]) _ (operand 0 0 0) _ (inl refl) tt refl
-
--- 0F CF
-spelled_58 : Spells (15 ∷ 207 ∷ []) (instr.Bswap reg.Edi)
+spelled_58 : Spells (153 ∷ []) (instr.Spread Four)
 spelled_58 = spelled ([]) _ (operand 0 0 0) _ (inl refl) tt refl
 
--- F3 66 A5
-spelled_59 : Spells (243 ∷ 102 ∷ 165 ∷ []) (instr.Movs Two true)
-spelled_59 = spelled (243 ∷ 102 ∷ []) _ (operand 0 0 0) _ (inl refl) tt refl
+-- 0F BC C1
+spelled_59 : Spells (15 ∷ 188 ∷ 193 ∷ []) (instr.Bsf Four reg.Eax (rm.Reg reg.Ecx))
+spelled_59 = spelled ([]) _ (operand 193 0 0) _ (inl refl) refl refl
 
--- 66 F3 A5
-spelled_60 : Spells (102 ∷ 243 ∷ 165 ∷ []) (instr.Movs Two true)
-spelled_60 = spelled (102 ∷ 243 ∷ []) _ (operand 0 0 0) _ (inl refl) tt refl
+-- 66 0F BD C1
+spelled_60 : Spells (102 ∷ 15 ∷ 189 ∷ 193 ∷ []) (instr.Bsr Two reg.Eax (rm.Reg reg.Ecx))
+spelled_60 = spelled (102 ∷ []) _ (operand 193 0 0) _ (inl refl) refl refl
 
--- A4
-spelled_61 : Spells (164 ∷ []) (instr.Movs One false)
+-- 0F C8
+spelled_61 : Spells (15 ∷ 200 ∷ []) (instr.Bswap reg.Eax)
 spelled_61 = spelled ([]) _ (operand 0 0 0) _ (inl refl) tt refl
 
+-- 0F CF
+spelled_62 : Spells (15 ∷ 207 ∷ []) (instr.Bswap reg.Edi)
+spelled_62 = spelled ([]) _ (operand 0 0 0) _ (inl refl) tt refl
+
+-- F3 66 A5
+spelled_63 : Spells (243 ∷ 102 ∷ 165 ∷ []) (instr.Movs Two true)
+spelled_63 = spelled (243 ∷ 102 ∷ []) _ (operand 0 0 0) _ (inl refl) tt refl
+
+-- 66 F3 A5
+spelled_64 : Spells (102 ∷ 243 ∷ 165 ∷ []) (instr.Movs Two true)
+spelled_64 = spelled (102 ∷ 243 ∷ []) _ (operand 0 0 0) _ (inl refl) tt refl
+
+-- A4
+spelled_65 : Spells (164 ∷ []) (instr.Movs One false)
+spelled_65 = spelled ([]) _ (operand 0 0 0) _ (inl refl) tt refl
+
 -- F3 AB
-spelled_62 : Spells (243 ∷ 171 ∷ []) (instr.Stos Four true)
-spelled_62 = spelled (243 ∷ []) _ (operand 0 0 0) _ (inl refl) tt refl
+spelled_66 : Spells (243 ∷ 171 ∷ []) (instr.Stos Four true)
+spelled_66 = spelled (243 ∷ []) _ (operand 0 0 0) _ (inl refl) tt refl
 
 -- EB FE
-spelled_63 : Spells (235 ∷ 254 ∷ []) (instr.Jmp 4294967294)
-spelled_63 = spelled ([]) _ (operand 0 0 0) _ (inr (inl refl)) tt refl
+spelled_67 : Spells (235 ∷ 254 ∷ []) (instr.Jmp 4294967294)
+spelled_67 = spelled ([]) _ (operand 0 0 0) _ (inr (inl refl)) tt refl
 
 -- E9 00 01 00 00
-spelled_64 : Spells (233 ∷ 0 ∷ 1 ∷ 0 ∷ 0 ∷ []) (instr.Jmp 256)
-spelled_64 = spelled ([]) _ (operand 0 0 0) _ (inl refl) tt refl
+spelled_68 : Spells (233 ∷ 0 ∷ 1 ∷ 0 ∷ 0 ∷ []) (instr.Jmp 256)
+spelled_68 = spelled ([]) _ (operand 0 0 0) _ (inl refl) tt refl
 
 -- 3E FF E0
-spelled_65 : Spells (62 ∷ 255 ∷ 224 ∷ []) (instr.JmpTo (rm.Reg reg.Eax))
-spelled_65 = spelled (62 ∷ []) _ (operand 224 0 0) _ (inl refl) refl refl
+spelled_69 : Spells (62 ∷ 255 ∷ 224 ∷ []) (instr.JmpTo (rm.Reg reg.Eax))
+spelled_69 = spelled (62 ∷ []) _ (operand 224 0 0) _ (inl refl) refl refl
 
 -- FF 24 85 54 90 04 08
-spelled_66 : Spells (255 ∷ 36 ∷ 133 ∷ 84 ∷ 144 ∷ 4 ∷ 8 ∷ []) (instr.JmpTo (rm.Mem (at None (Some reg.Eax) 4 134516820)))
-spelled_66 = spelled ([]) _ (operand 36 133 134516820) _ (inl refl) refl refl
+spelled_70 : Spells (255 ∷ 36 ∷ 133 ∷ 84 ∷ 144 ∷ 4 ∷ 8 ∷ []) (instr.JmpTo (rm.Mem (at None (Some reg.Eax) 4 134516820)))
+spelled_70 = spelled ([]) _ (operand 36 133 134516820) _ (inl refl) refl refl
 
 -- FF D0
-spelled_67 : Spells (255 ∷ 208 ∷ []) (instr.CallTo (rm.Reg reg.Eax))
-spelled_67 = spelled ([]) _ (operand 208 0 0) _ (inl refl) refl refl
+spelled_71 : Spells (255 ∷ 208 ∷ []) (instr.CallTo (rm.Reg reg.Eax))
+spelled_71 = spelled ([]) _ (operand 208 0 0) _ (inl refl) refl refl
 
 -- 77 23
-spelled_68 : Spells (119 ∷ 35 ∷ []) (instr.Jcc cond.A 35)
-spelled_68 = spelled ([]) _ (operand 0 0 0) _ (inr (inl refl)) tt refl
-
--- 0F 84 FA FF FF FF
-spelled_69 : Spells (15 ∷ 132 ∷ 250 ∷ 255 ∷ 255 ∷ 255 ∷ []) (instr.Jcc cond.E 4294967290)
-spelled_69 = spelled ([]) _ (operand 0 0 0) _ (inl refl) tt refl
-
--- E8 10 00 00 00
-spelled_70 : Spells (232 ∷ 16 ∷ 0 ∷ 0 ∷ 0 ∷ []) (instr.Call 16)
-spelled_70 = spelled ([]) _ (operand 0 0 0) _ (inl refl) tt refl
-
--- E8 FA FF FF FF
-spelled_71 : Spells (232 ∷ 250 ∷ 255 ∷ 255 ∷ 255 ∷ []) (instr.Call 4294967290)
-spelled_71 = spelled ([]) _ (operand 0 0 0) _ (inl refl) tt refl
-
--- C3
-spelled_72 : Spells (195 ∷ []) (instr.Ret 0)
+spelled_72 : Spells (119 ∷ 35 ∷ []) (instr.Jcc cond.A 35)
 spelled_72 = spelled ([]) _ (operand 0 0 0) _ (inr (inl refl)) tt refl
 
--- F3 C3
-spelled_73 : Spells (243 ∷ 195 ∷ []) (instr.Ret 0)
-spelled_73 = spelled (243 ∷ []) _ (operand 0 0 0) _ (inr (inr (inl refl))) tt refl
+-- 0F 84 FA FF FF FF
+spelled_73 : Spells (15 ∷ 132 ∷ 250 ∷ 255 ∷ 255 ∷ 255 ∷ []) (instr.Jcc cond.E 4294967290)
+spelled_73 = spelled ([]) _ (operand 0 0 0) _ (inl refl) tt refl
 
--- C2 08 00
-spelled_74 : Spells (194 ∷ 8 ∷ 0 ∷ []) (instr.Ret 8)
+-- E8 10 00 00 00
+spelled_74 : Spells (232 ∷ 16 ∷ 0 ∷ 0 ∷ 0 ∷ []) (instr.Call 16)
 spelled_74 = spelled ([]) _ (operand 0 0 0) _ (inl refl) tt refl
 
--- C9
-spelled_75 : Spells (201 ∷ []) (instr.Leave)
+-- E8 FA FF FF FF
+spelled_75 : Spells (232 ∷ 250 ∷ 255 ∷ 255 ∷ 255 ∷ []) (instr.Call 4294967290)
 spelled_75 = spelled ([]) _ (operand 0 0 0) _ (inl refl) tt refl
 
+-- C3
+spelled_76 : Spells (195 ∷ []) (instr.Ret 0)
+spelled_76 = spelled ([]) _ (operand 0 0 0) _ (inr (inl refl)) tt refl
+
+-- F3 C3
+spelled_77 : Spells (243 ∷ 195 ∷ []) (instr.Ret 0)
+spelled_77 = spelled (243 ∷ []) _ (operand 0 0 0) _ (inr (inr (inl refl))) tt refl
+
+-- C2 08 00
+spelled_78 : Spells (194 ∷ 8 ∷ 0 ∷ []) (instr.Ret 8)
+spelled_78 = spelled ([]) _ (operand 0 0 0) _ (inl refl) tt refl
+
+-- C9
+spelled_79 : Spells (201 ∷ []) (instr.Leave)
+spelled_79 = spelled ([]) _ (operand 0 0 0) _ (inl refl) tt refl
+
 -- CD 80
-spelled_76 : Spells (205 ∷ 128 ∷ []) (instr.Int80)
-spelled_76 = spelled ([]) _ (operand 0 0 0) _ (inl refl) tt refl
+spelled_80 : Spells (205 ∷ 128 ∷ []) (instr.Int80)
+spelled_80 = spelled ([]) _ (operand 0 0 0) _ (inl refl) tt refl
 
 -- FC
-spelled_77 : Spells (252 ∷ []) (instr.Cld)
-spelled_77 = spelled ([]) _ (operand 0 0 0) _ (inl refl) tt refl
+spelled_81 : Spells (252 ∷ []) (instr.Cld)
+spelled_81 = spelled ([]) _ (operand 0 0 0) _ (inl refl) tt refl
 
 -- 66 66 90
-spelled_78 : Spells (102 ∷ 102 ∷ 144 ∷ []) (instr.Nop)
-spelled_78 = spelled (102 ∷ 102 ∷ []) _ (operand 0 0 0) _ (inl refl) tt refl
+spelled_82 : Spells (102 ∷ 102 ∷ 144 ∷ []) (instr.Nop)
+spelled_82 = spelled (102 ∷ 102 ∷ []) _ (operand 0 0 0) _ (inl refl) tt refl
+
+-- 66 66 66 66 66 66 66 66 66 66 66 66 66 66 90
+spelled_83 : Spells (102 ∷ 102 ∷ 102 ∷ 102 ∷ 102 ∷ 102 ∷ 102 ∷ 102 ∷ 102 ∷ 102 ∷ 102 ∷ 102 ∷ 102 ∷ 102 ∷ 144 ∷ []) (instr.Nop)
+spelled_83 = spelled (102 ∷ 102 ∷ 102 ∷ 102 ∷ 102 ∷ 102 ∷ 102 ∷ 102 ∷ 102 ∷ 102 ∷ 102 ∷ 102 ∷ 102 ∷ 102 ∷ []) _ (operand 0 0 0) _ (inl refl) tt refl
 
 -- 66 66 2E 0F 1F 84 00 00 00 00 00
-spelled_79 : Spells (102 ∷ 102 ∷ 46 ∷ 15 ∷ 31 ∷ 132 ∷ 0 ∷ 0 ∷ 0 ∷ 0 ∷ 0 ∷ []) (instr.Nop)
-spelled_79 = spelled (102 ∷ 102 ∷ 46 ∷ []) _ (operand 132 0 0) _ (inr (inl refl)) tt refl
+spelled_84 : Spells (102 ∷ 102 ∷ 46 ∷ 15 ∷ 31 ∷ 132 ∷ 0 ∷ 0 ∷ 0 ∷ 0 ∷ 0 ∷ []) (instr.Nop)
+spelled_84 = spelled (102 ∷ 102 ∷ 46 ∷ []) _ (operand 132 0 0) _ (inr (inl refl)) tt refl
 
 -- F3 0F 1E FB
-spelled_80 : Spells (243 ∷ 15 ∷ 30 ∷ 251 ∷ []) (instr.Nop)
-spelled_80 = spelled (243 ∷ []) _ (operand 0 0 0) _ (inr (inr (inl refl))) tt refl
+spelled_85 : Spells (243 ∷ 15 ∷ 30 ∷ 251 ∷ []) (instr.Nop)
+spelled_85 = spelled (243 ∷ []) _ (operand 0 0 0) _ (inr (inr (inl refl))) tt refl
 
 -- ---- reading in vain
 
@@ -524,3 +540,315 @@ unfolding entry_of numbers sib_at after_m m_at after_opcode after_escape at_opco
 nothing_17 = none_spelled (243 ∷ 243 ∷ 164 ∷ []) refl
 
 -- ---- the end of the rows
+
+pub all_spelled : AllSpelled
+all_spelled = (
+  spelled_0,
+  (
+    spelled_1,
+    (
+      spelled_2,
+      (
+        spelled_3,
+        (
+          spelled_4,
+          (
+            spelled_5,
+            (
+              spelled_6,
+              (
+                spelled_7,
+                (
+                  spelled_8,
+                  (
+                    spelled_9,
+                    (
+                      spelled_10,
+                      (
+                        spelled_11,
+                        (
+                          spelled_12,
+                          (
+                            spelled_13,
+                            (
+                              spelled_14,
+                              (
+                                spelled_15,
+                                (
+                                  spelled_16,
+                                  (
+                                    spelled_17,
+                                    (
+                                      spelled_18,
+                                      (
+                                        spelled_19,
+                                        (
+                                          spelled_20,
+                                          (
+                                            spelled_21,
+                                            (
+                                              spelled_22,
+                                              (
+                                                spelled_23,
+                                                (
+                                                  spelled_24,
+                                                  (
+                                                    spelled_25,
+                                                    (
+                                                      spelled_26,
+                                                      (
+                                                        spelled_27,
+                                                        (
+                                                          spelled_28,
+                                                          (
+                                                            spelled_29,
+                                                            (
+                                                              spelled_30,
+                                                              (
+                                                                spelled_31,
+                                                                (
+                                                                  spelled_32,
+                                                                  (
+                                                                    spelled_33,
+                                                                    (
+                                                                      spelled_34,
+                                                                      (
+                                                                        spelled_35,
+                                                                        (
+                                                                          spelled_36,
+                                                                          (
+                                                                            spelled_37,
+                                                                            (
+                                                                              spelled_38,
+                                                                              (
+                                                                                spelled_39,
+                                                                                (
+                                                                                  spelled_40,
+                                                                                  (
+                                                                                    spelled_41,
+                                                                                    (
+                                                                                      spelled_42,
+                                                                                      (
+                                                                                        spelled_43,
+                                                                                        (
+                                                                                          spelled_44,
+                                                                                          (
+                                                                                            spelled_45,
+                                                                                            (
+                                                                                              spelled_46,
+                                                                                              (
+                                                                                                spelled_47,
+                                                                                                (
+                                                                                                  spelled_48,
+                                                                                                  (
+                                                                                                    spelled_49,
+                                                                                                    (
+                                                                                                      spelled_50,
+                                                                                                      (
+                                                                                                        spelled_51,
+                                                                                                        (
+                                                                                                          spelled_52,
+                                                                                                          (
+                                                                                                            spelled_53,
+                                                                                                            (
+                                                                                                              spelled_54,
+                                                                                                              (
+                                                                                                                spelled_55,
+                                                                                                                (
+                                                                                                                  spelled_56,
+                                                                                                                  (
+                                                                                                                    spelled_57,
+                                                                                                                    (
+                                                                                                                      spelled_58,
+                                                                                                                      (
+                                                                                                                        spelled_59,
+                                                                                                                        (
+                                                                                                                          spelled_60,
+                                                                                                                          (
+                                                                                                                            spelled_61,
+                                                                                                                            (
+                                                                                                                              spelled_62,
+                                                                                                                              (
+                                                                                                                                spelled_63,
+                                                                                                                                (
+                                                                                                                                  spelled_64,
+                                                                                                                                  (
+                                                                                                                                    spelled_65,
+                                                                                                                                    (
+                                                                                                                                      spelled_66,
+                                                                                                                                      (
+                                                                                                                                        spelled_67,
+                                                                                                                                        (
+                                                                                                                                          spelled_68,
+                                                                                                                                          (
+                                                                                                                                            spelled_69,
+                                                                                                                                            (
+                                                                                                                                              spelled_70,
+                                                                                                                                              (
+                                                                                                                                                spelled_71,
+                                                                                                                                                (
+                                                                                                                                                  spelled_72,
+                                                                                                                                                  (
+                                                                                                                                                    spelled_73,
+                                                                                                                                                    (
+                                                                                                                                                      spelled_74,
+                                                                                                                                                      (
+                                                                                                                                                        spelled_75,
+                                                                                                                                                        (
+                                                                                                                                                          spelled_76,
+                                                                                                                                                          (
+                                                                                                                                                            spelled_77,
+                                                                                                                                                            (
+                                                                                                                                                              spelled_78,
+                                                                                                                                                              (
+                                                                                                                                                                spelled_79,
+                                                                                                                                                                (
+                                                                                                                                                                  spelled_80,
+                                                                                                                                                                  (
+                                                                                                                                                                    spelled_81,
+                                                                                                                                                                    (
+                                                                                                                                                                      spelled_82,
+                                                                                                                                                                      (
+                                                                                                                                                                        spelled_83,
+                                                                                                                                                                        (
+                                                                                                                                                                          spelled_84,
+                                                                                                                                                                          (spelled_85, tt),
+                                                                                                                                                                        ),
+                                                                                                                                                                      ),
+                                                                                                                                                                    ),
+                                                                                                                                                                  ),
+                                                                                                                                                                ),
+                                                                                                                                                              ),
+                                                                                                                                                            ),
+                                                                                                                                                          ),
+                                                                                                                                                        ),
+                                                                                                                                                      ),
+                                                                                                                                                    ),
+                                                                                                                                                  ),
+                                                                                                                                                ),
+                                                                                                                                              ),
+                                                                                                                                            ),
+                                                                                                                                          ),
+                                                                                                                                        ),
+                                                                                                                                      ),
+                                                                                                                                    ),
+                                                                                                                                  ),
+                                                                                                                                ),
+                                                                                                                              ),
+                                                                                                                            ),
+                                                                                                                          ),
+                                                                                                                        ),
+                                                                                                                      ),
+                                                                                                                    ),
+                                                                                                                  ),
+                                                                                                                ),
+                                                                                                              ),
+                                                                                                            ),
+                                                                                                          ),
+                                                                                                        ),
+                                                                                                      ),
+                                                                                                    ),
+                                                                                                  ),
+                                                                                                ),
+                                                                                              ),
+                                                                                            ),
+                                                                                          ),
+                                                                                        ),
+                                                                                      ),
+                                                                                    ),
+                                                                                  ),
+                                                                                ),
+                                                                              ),
+                                                                            ),
+                                                                          ),
+                                                                        ),
+                                                                      ),
+                                                                    ),
+                                                                  ),
+                                                                ),
+                                                              ),
+                                                            ),
+                                                          ),
+                                                        ),
+                                                      ),
+                                                    ),
+                                                  ),
+                                                ),
+                                              ),
+                                            ),
+                                          ),
+                                        ),
+                                      ),
+                                    ),
+                                  ),
+                                ),
+                              ),
+                            ),
+                          ),
+                        ),
+                      ),
+                    ),
+                  ),
+                ),
+              ),
+            ),
+          ),
+        ),
+      ),
+    ),
+  ),
+)
+
+pub none_spelled_there : NoneSpelled
+none_spelled_there = (
+  nothing_0,
+  (
+    nothing_1,
+    (
+      nothing_2,
+      (
+        nothing_3,
+        (
+          nothing_4,
+          (
+            nothing_5,
+            (
+              nothing_6,
+              (
+                nothing_7,
+                (
+                  nothing_8,
+                  (
+                    nothing_9,
+                    (
+                      nothing_10,
+                      (
+                        nothing_11,
+                        (
+                          nothing_12,
+                          (
+                            nothing_13,
+                            (
+                              nothing_14,
+                              (
+                                nothing_15,
+                                (
+                                  nothing_16,
+                                  (nothing_17, tt),
+                                ),
+                              ),
+                            ),
+                          ),
+                        ),
+                      ),
+                    ),
+                  ),
+                ),
+              ),
+            ),
+          ),
+        ),
+      ),
+    ),
+  ),
+)

@@ -7,3 +7,4 @@ pub mod Parts
 pub mod Rows
 pub mod Spells
 pub mod Table
+pub mod Worked

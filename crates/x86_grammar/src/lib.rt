@@ -12,4 +12,5 @@ pub use opcode_map::{ENTRIES, entry_at, opcode_map_is_right};
 pub use row::{Counts, Entry, Form, Group, Row};
 pub use spelling::{
     has_spelling, no_spelling_begins_another, spelled_fields_fit, spelling_is_short,
+    worked_spellings,
 };

@@ -3,6 +3,7 @@ ghost use Rattle.x86_types.specs.declared.instr.Instr.{Instr};
 ghost use Rattle.x86_grammar.specs.Spells.{Spells};
 ghost use Rattle.std.specs.List.{AllByRecursion};
 ghost use Rattle.x86_grammar.specs.Fields.{HasSpelling, fields_fit};
+ghost use Rattle.x86_grammar.specs.Worked.{AllSpelled, NoneSpelled};
 
 use crate::fields::fields_fit;
 use x86_types::Instr;
@@ -32,4 +33,11 @@ pub fn spelling_is_short()
 /// An instruction has a spelling exactly where its fields are in the ranges of its forms.
 pub fn spelled_fields_fit()
     ensures fields { (i : Instr) → (fields_fit i ≡ true) ↔ HasSpelling i }
+{}
+
+/// Does nothing: its clauses are worked spellings, and lists of bytes that spell nothing, each
+/// computed from the definitions.
+pub fn worked_spellings()
+    ensures spelled { AllSpelled }
+    ensures nothing { NoneSpelled }
 {}

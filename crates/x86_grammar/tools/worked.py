@@ -1,14 +1,10 @@
 #!/usr/bin/env python3
-"""Writes the worked rows of proofs/Worked.antt.
+"""Writes the worked rows of specs/Worked.antt and proofs/Worked.antt.
 
 Run it in the crate's folder, then rt fmt. A spelling is written as prefixes, opcode, ModRM with
 what follows it, and number, with a bar between; then the instruction, and the place of the form
-in its list. The rows were read off the manual's pages and compared with what objdump says.
-With the word "peer" it prints objdump's reading beside each row.
+in its list. The rows were read off the manual's pages.
 """
-import subprocess
-import sys
-import tempfile
 
 SPELLED = [
     # Alu
@@ -27,6 +23,11 @@ SPELLED = [
      "Mov One (rm.Reg reg.Esp) (src.Mem (at (Some reg.Eax) None 1 256))", 0),
     ("|A1||00 A0 04 08", "Mov Four (rm.Reg reg.Eax) (src.Mem (at None None 1 134520832))", 1),
     ("66|A3||00 A0 04 08", "Mov Two (rm.Mem (at None None 1 134520832)) (src.Reg reg.Eax)", 1),
+    ("|8B|44 8D FC|",
+     "Mov Four (rm.Reg reg.Eax) (src.Mem (at (Some reg.Ebp) (Some reg.Ecx) 4 4294967292))", 0),
+    ("|8B|04 64|", "Mov Four (rm.Reg reg.Eax) (src.Mem (at (Some reg.Esp) None 1 0))", 0),
+    ("66|B8||34 12", "Mov Two (rm.Reg reg.Eax) (src.Imm 4660)", 1),
+    ("|B4||01", "Mov One (rm.Reg reg.Esp) (src.Imm 1)", 1),
     # Lea
     ("|8D|04 8D 00 00 00 00|", "Lea Four reg.Eax (at None (Some reg.Ecx) 4 0)", 0),
     ("2E 66 2E|8D|41 01|", "Lea Two reg.Eax (at (Some reg.Ecx) None 1 1)", 0),
@@ -120,6 +121,7 @@ SPELLED = [
     ("|FC||", "Cld", 0),
     # Nop
     ("66 66|90||", "Nop", 0),
+    ("66 66 66 66 66 66 66 66 66 66 66 66 66 66|90||", "Nop", 0),
     ("66 66 2E|0F 1F|84 00 00 00 00 00|", "Nop", 1),
     ("F3|0F 1E||FB", "Nop", 2),
 ]
@@ -195,32 +197,58 @@ def nothing(at, row):
             f"nothing_{at} = none_spelled ({bytes_}) refl\n")
 
 
-def peer():
-    for text, instr, _ in SPELLED:
-        bytes_ = bytes(numbers(text.replace("|", " ")))
-        with tempfile.NamedTemporaryFile() as file:
-            file.write(bytes_)
-            file.flush()
-            said = subprocess.run(["objdump", "-D", "-b", "binary", "-m", "i386", "-M", "intel",
-                                   file.name], capture_output=True, text=True).stdout
-        words = [line.split("\t")[2] for line in said.splitlines() if line.count("\t") == 2]
-        print(shown(bytes_).ljust(36), "; ".join(words).ljust(48), instr)
+def table(name, type_, rows):
+    lines = " ∷\n    ".join(rows + ["[]"])
+    return f"abbrev pub {name} : {type_}\n{name} =\n    {lines}\n"
+
+
+def all_of(name, rows):
+    """The lemmas of a table's rows as one fact."""
+    lines = ",\n    (".join(f"{name}_{at}" for at, _ in enumerate(rows))
+    return f"({lines}, tt" + ")" * len(rows)
 
 
 def rewrite(text, begin, end, body):
     return text[:text.index(begin) + len(begin)] + "\n" + body + "\n" + text[text.index(end):]
 
 
+def main():
+    path = "proofs/Worked.antt"
+    text = open(path).read()
+    text = rewrite(text, "-- ---- what is spelled, by tools/worked.py\n",
+                   "-- ---- reading in vain\n",
+                   "\n".join(spelled(at, row) for at, row in enumerate(SPELLED)))
+    text = rewrite(text, "-- ---- what spells nothing, by tools/worked.py\n",
+                   "-- ---- the end of the rows\n",
+                   "\n".join(nothing(at, row) for at, row in enumerate(NOTHING)))
+    begin = "-- ---- the end of the rows\n"
+    text = text[:text.index(begin) + len(begin)] + f"""
+pub all_spelled : AllSpelled
+all_spelled =
+    {all_of("spelled", SPELLED)}
+
+pub none_spelled_there : NoneSpelled
+none_spelled_there =
+    {all_of("nothing", NOTHING)}
+"""
+    open(path, "w").write(text)
+    rows = [f"({listed(numbers(text.replace('|', ' ')))}, instr.{instr})" for text, instr, _ in SPELLED]
+    vain = [f"({listed(numbers(text))})" for text, _ in NOTHING]
+    path = "specs/Worked.antt"
+    text = open(path).read()
+    begin = "-- ---- the tables, by tools/worked.py\n"
+    text = text[:text.index(begin) + len(begin)]
+    text += "\n" + table("worked", "List (List ℕ × Instr)", rows)
+    text += "\n" + table("in_vain", "List (List ℕ)", vain)
+    text += """
+abbrev pub AllSpelled : Type 0
+AllSpelled = AllByRecursion (λ (row : List ℕ × Instr). Spells row.0 row.1) worked
+
+abbrev pub NoneSpelled : Type 0
+NoneSpelled = AllByRecursion (λ (bytes : List ℕ). (i : Instr) → Spells bytes i → ⊥) in_vain
+"""
+    open(path, "w").write(text)
+
+
 if __name__ == "__main__":
-    if sys.argv[1:] == ["peer"]:
-        peer()
-    else:
-        path = "proofs/Worked.antt"
-        text = open(path).read()
-        text = rewrite(text, "-- ---- what is spelled, by tools/worked.py\n",
-                       "-- ---- reading in vain\n",
-                       "\n".join(spelled(at, row) for at, row in enumerate(SPELLED)))
-        text = rewrite(text, "-- ---- what spells nothing, by tools/worked.py\n",
-                       "-- ---- the end of the rows\n",
-                       "\n".join(nothing(at, row) for at, row in enumerate(NOTHING)))
-        open(path, "w").write(text)
+    main()
