@@ -4,3 +4,4 @@ pub mod States
 pub mod Memories
 pub mod Moves
 pub mod Rows
+pub mod WholeGrammar

@@ -6,6 +6,7 @@ use Rattle.traces.specs.Plain.{NeverStops}
 use Rattle.elf_image.specs.declared.image.Image.{Image}
 use Rattle.elf_image.specs.Image.{code_bytes}
 use Rattle.x86_types.specs.declared.instr.Instr.{Instr}
+use Rattle.x86_grammar.specs.Spells.{Spells as SpellsWhole}
 use Rattle.x86_meaning.specs.Spells.{Spells, FrontSpells, front}
 use Rattle.x86_meaning.specs.Step.{State, Code}
 use Rattle.x86_meaning.specs.Run.{code_of, run_from}
@@ -13,6 +14,14 @@ use Rattle.x86_meaning.specs.Run.{code_of, run_from}
 -- the computed instruction is the one that a front spells, with the length of that front
 abbrev pub FrontIsSpelling : Type 0
 FrontIsSpelling = (bytes : List ℕ) → All (λ b. b < 256) bytes → (i : Instr) (len : ℕ) → (front bytes ≡ Some (i, len)) ↔ FrontSpells bytes i len
+
+-- what spells an instruction here spells it by the whole grammar
+abbrev pub IsWholeSpelling : Type 0
+IsWholeSpelling = (bytes : List ℕ) (i : Instr) → Spells bytes i → SpellsWhole bytes i
+
+-- and where it stands, the whole grammar has no other
+abbrev pub IsOnlySpelling : Type 0
+IsOnlySpelling = (a b x y : List ℕ) (i j : Instr) → Spells a i → SpellsWhole b j → a ++ x ≡ b ++ y → (a ≡ b) × (i ≡ j)
 
 -- no spelling begins another, and none spells two instructions
 abbrev pub NoSpellingBeginsAnother : Type 0

@@ -1,4 +1,5 @@
 use Rattle.x86_meaning.proofs.Spellings.{found_front, spelled_front, no_spelling_begins, short, none_spells, fifteen, any_front}
+use Rattle.x86_meaning.proofs.WholeGrammar.{whole_spelling, only_spelling}
 use Rattle.x86_meaning.proofs.laws.spelling_laws.Goals as goal
 
 pub returns-clause-front_is_spelling : goal.returns-clause-front_is_spelling
@@ -18,3 +19,9 @@ returns-clause-fifteen_are_enough c = fifteen
 
 pub returns-clause-code_is_any_front : goal.returns-clause-code_is_any_front
 returns-clause-code_is_any_front c = any_front
+
+pub returns-clause-is_whole_spelling : goal.returns-clause-is_whole_spelling
+returns-clause-is_whole_spelling c = whole_spelling
+
+pub returns-clause-is_only_spelling : goal.returns-clause-is_only_spelling
+returns-clause-is_only_spelling c = only_spelling
