@@ -13,53 +13,56 @@ use Rattle.rewrite_core.specs.Places.{is_apart, target_of, judged_as, judged_by,
 abbrev pub Found : Type 0
 Found = Option (Instr × ℕ)
 
--- a length is at least 1 and at most that of the bytes
-abbrev Within : ℕ → Found → Type 0
-Within n None = Unit {0}
-Within n (Some p) = (1 ≤ p.1) × (p.1 ≤ n)
+-- an instruction has one to five bytes, of those that stand there
+abbrev pub Short : ℕ → ℕ → Type 0
+Short n len = (1 ≤ len) × (len ≤ 5) × (len ≤ n)
+
+abbrev pub FoundShort : ℕ → Found → Type 0
+FoundShort n None = Unit {0}
+FoundShort n (Some p) = Short n p.1
 
 on_cond : (P : Found → Type 0) (b : Bool) (x y : Found) → P x → P y → P (cond b x y)
 on_cond P true x y p q = p
 on_cond P false x y p q = q
 
-mov_within : (r : Reg) (bs : List ℕ) → Within (suc (length bs)) (mov_of r bs)
-mov_within r [] = tt
-mov_within r (a ∷ []) = tt
-mov_within r (a ∷ b ∷ []) = tt
-mov_within r (a ∷ b ∷ c ∷ []) = tt
-mov_within r (a ∷ b ∷ c ∷ d ∷ rest) = (omega arith, omega arith)
+mov_short : (r : Reg) (bs : List ℕ) → FoundShort (suc (length bs)) (mov_of r bs)
+mov_short r [] = tt
+mov_short r (a ∷ []) = tt
+mov_short r (a ∷ b ∷ []) = tt
+mov_short r (a ∷ b ∷ c ∷ []) = tt
+mov_short r (a ∷ b ∷ c ∷ d ∷ rest) = (omega arith, omega arith, omega arith)
 
-far_within : (bs : List ℕ) → Within (suc (length bs)) (far_of bs)
-far_within [] = tt
-far_within (a ∷ []) = tt
-far_within (a ∷ b ∷ []) = tt
-far_within (a ∷ b ∷ c ∷ []) = tt
-far_within (a ∷ b ∷ c ∷ d ∷ rest) = (omega arith, omega arith)
+far_short : (bs : List ℕ) → FoundShort (suc (length bs)) (far_of bs)
+far_short [] = tt
+far_short (a ∷ []) = tt
+far_short (a ∷ b ∷ []) = tt
+far_short (a ∷ b ∷ c ∷ []) = tt
+far_short (a ∷ b ∷ c ∷ d ∷ rest) = (omega arith, omega arith, omega arith)
 
-near_within : (bs : List ℕ) → Within (suc (length bs)) (near_of bs)
-near_within [] = tt
-near_within (a ∷ rest) = (omega arith, omega arith)
+near_short : (bs : List ℕ) → FoundShort (suc (length bs)) (near_of bs)
+near_short [] = tt
+near_short (a ∷ rest) = (omega arith, omega arith, omega arith)
 
-int_within : (bs : List ℕ) → Within (suc (length bs)) (int_of bs)
-int_within [] = tt
-int_within (a ∷ rest) = on_cond (Within (suc (suc (length rest)))) (a == 0x80) _ _ (omega arith, omega arith) tt
+int_short : (bs : List ℕ) → FoundShort (suc (length bs)) (int_of bs)
+int_short [] = tt
+int_short (a ∷ rest) = on_cond (FoundShort (suc (suc (length rest)))) (a == 0x80) _ _ (omega arith, omega arith, omega arith) tt
 
-pub front_within : (bs : List ℕ) → Within (length bs) (front bs)
+pub front_short : (bs : List ℕ) → FoundShort (length bs) (front bs)
 unfolding front
-front_within [] = tt
-front_within (b ∷ bs) =
-    let P = λ (x : Found). Within (suc (length bs)) x in
-    on_cond P (b == 0xB8) _ _ (mov_within Eax bs)
-    (on_cond P (b == 0xB9) _ _ (mov_within Ecx bs)
-    (on_cond P (b == 0xBA) _ _ (mov_within Edx bs)
-    (on_cond P (b == 0xBB) _ _ (mov_within Ebx bs)
-    (on_cond P (b == 0xBC) _ _ (mov_within Esp bs)
-    (on_cond P (b == 0xBD) _ _ (mov_within Ebp bs)
-    (on_cond P (b == 0xBE) _ _ (mov_within Esi bs)
-    (on_cond P (b == 0xBF) _ _ (mov_within Edi bs)
-    (on_cond P (b == 0xE9) _ _ (far_within bs)
-    (on_cond P (b == 0xEB) _ _ (near_within bs)
-    (on_cond P (b == 0xCD) _ _ (int_within bs) tt))))))))))
+front_short [] = tt
+front_short (b ∷ bs) =
+    let P = λ (x : Found). FoundShort (suc (length bs)) x in
+    on_cond P (b == 0xB8) _ _ (mov_short Eax bs)
+    (on_cond P (b == 0xB9) _ _ (mov_short Ecx bs)
+    (on_cond P (b == 0xBA) _ _ (mov_short Edx bs)
+    (on_cond P (b == 0xBB) _ _ (mov_short Ebx bs)
+    (on_cond P (b == 0xBC) _ _ (mov_short Esp bs)
+    (on_cond P (b == 0xBD) _ _ (mov_short Ebp bs)
+    (on_cond P (b == 0xBE) _ _ (mov_short Esi bs)
+    (on_cond P (b == 0xBF) _ _ (mov_short Edi bs)
+    (on_cond P (b == 0xE9) _ _ (far_short bs)
+    (on_cond P (b == 0xEB) _ _ (near_short bs)
+    (on_cond P (b == 0xCD) _ _ (int_short bs) tt))))))))))
 
 -- what a front spells is one of the built instructions
 pub data IsBuilt : Instr → Type 0 where
@@ -152,7 +155,7 @@ front_take (b ∷ bs) =
     (same_cond (b == 0xCD) _ _ _ _ (int_take bs) refl))))))))))
 
 pub within_of : (bs : List ℕ) (i : Instr) (len : ℕ) → front bs ≡ Some (i, len) → (1 ≤ len) × (len ≤ length bs)
-within_of bs i len e = subst (Within (length bs)) e (front_within bs)
+within_of bs i len e = let s : Short (length bs) len = subst (FoundShort (length bs)) e (front_short bs) in (s.0, s.2)
 
 -- where a list has a first byte
 abbrev pub first_of : List ℕ → Option ℕ

@@ -1,66 +1,13 @@
 -- How long what stands at a place is, and how far a jump leads.
-use Rattle.std.proofs.Common.{◌≡◌, ℕ, suc, ◌+◌, ◌%◌, ◌≤◌, ◌==◌, Bool, true, false, cond, List, [], ◌∷◌, length, drop, Some, None, subst, arith, length-drop}
+use Rattle.std.proofs.Common.{◌≡◌, ℕ, suc, ◌+◌, ◌%◌, ◌≤◌, Bool, true, false, cond, List, [], ◌∷◌, length, drop, Some, None, subst, arith, length-drop}
 use Rattle.std.proofs.lemmas.Bool.Decides.{nat_tests}
-use Rattle.x86_types.specs.declared.operand.Reg.{Reg}
-use Rattle.x86_types.specs.declared.operand.Reg.TheVariants.{Eax, Ecx, Edx, Ebx, Esp, Ebp, Esi, Edi}
 use Rattle.x86_types.specs.declared.instr.Instr.{Instr}
-use Rattle.x86_meaning.specs.Spells.{front, mov_of, far_of, near_of, int_of}
+use Rattle.x86_meaning.specs.Spells.{front}
 use Rattle.rewrite_core.specs.declared.places.Judgement.{Judgement}
 use Rattle.rewrite_core.specs.declared.places.Judgement.TheVariants.{GoesOn, Jumps, Ends, LeftOut}
 use Rattle.rewrite_core.specs.Met.{is_taken_byte}
 use Rattle.rewrite_core.specs.Places.{is_apart, page_start, place_of, judged_as, judged_by, judged_from, judged_at}
-use Rattle.rewrite_core.proofs.Fronts.{Found, IsBuilt, moves, jumps, calls, FoundBuilt, front_built}
-
--- an instruction has one to five bytes, of those that stand there
-abbrev Short : ℕ → ℕ → Type 0
-Short n len = (1 ≤ len) × (len ≤ 5) × (len ≤ n)
-
-abbrev FoundShort : ℕ → Found → Type 0
-FoundShort n None = Unit {0}
-FoundShort n (Some p) = Short n p.1
-
-on_cond : (P : Found → Type 0) (b : Bool) (x y : Found) → P x → P y → P (cond b x y)
-on_cond P true x y p q = p
-on_cond P false x y p q = q
-
-mov_short : (r : Reg) (bs : List ℕ) → FoundShort (suc (length bs)) (mov_of r bs)
-mov_short r [] = tt
-mov_short r (a ∷ []) = tt
-mov_short r (a ∷ b ∷ []) = tt
-mov_short r (a ∷ b ∷ c ∷ []) = tt
-mov_short r (a ∷ b ∷ c ∷ d ∷ rest) = (omega arith, omega arith, omega arith)
-
-far_short : (bs : List ℕ) → FoundShort (suc (length bs)) (far_of bs)
-far_short [] = tt
-far_short (a ∷ []) = tt
-far_short (a ∷ b ∷ []) = tt
-far_short (a ∷ b ∷ c ∷ []) = tt
-far_short (a ∷ b ∷ c ∷ d ∷ rest) = (omega arith, omega arith, omega arith)
-
-near_short : (bs : List ℕ) → FoundShort (suc (length bs)) (near_of bs)
-near_short [] = tt
-near_short (a ∷ rest) = (omega arith, omega arith, omega arith)
-
-int_short : (bs : List ℕ) → FoundShort (suc (length bs)) (int_of bs)
-int_short [] = tt
-int_short (a ∷ rest) = on_cond (FoundShort (suc (suc (length rest)))) (a == 0x80) _ _ (omega arith, omega arith, omega arith) tt
-
-front_short : (bs : List ℕ) → FoundShort (length bs) (front bs)
-unfolding front
-front_short [] = tt
-front_short (b ∷ bs) =
-    let P = λ (x : Found). FoundShort (suc (length bs)) x in
-    on_cond P (b == 0xB8) _ _ (mov_short Eax bs)
-    (on_cond P (b == 0xB9) _ _ (mov_short Ecx bs)
-    (on_cond P (b == 0xBA) _ _ (mov_short Edx bs)
-    (on_cond P (b == 0xBB) _ _ (mov_short Ebx bs)
-    (on_cond P (b == 0xBC) _ _ (mov_short Esp bs)
-    (on_cond P (b == 0xBD) _ _ (mov_short Ebp bs)
-    (on_cond P (b == 0xBE) _ _ (mov_short Esi bs)
-    (on_cond P (b == 0xBF) _ _ (mov_short Edi bs)
-    (on_cond P (b == 0xE9) _ _ (far_short bs)
-    (on_cond P (b == 0xEB) _ _ (near_short bs)
-    (on_cond P (b == 0xCD) _ _ (int_short bs) tt))))))))))
+use Rattle.rewrite_core.proofs.Fronts.{Found, Short, FoundShort, front_short, IsBuilt, moves, jumps, calls, FoundBuilt, front_built}
 
 -- a place of a jump is one of the page, or its end
 abbrev JudgedShort : ℕ → Judgement → Type 0
