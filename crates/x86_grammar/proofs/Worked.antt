@@ -1,6 +1,6 @@
 -- Worked spellings of each row of the list, by the manual's pages, and bytes that spell nothing. Each is
 -- computed by the checker.
-use Rattle.std.proofs.Common.{◌≡◌, ℕ, ◌/◌, ◌%◌, ◌^◌, Bool, true, false, not, ltb, leb, eqb, ◌&&◌, ◌||◌, List, [], ◌∷◌, ◌++◌, length, Some, None, inl, inr, refl, sym, ap, ◌∙◌}
+use Rattle.std.proofs.Common.{◌≡◌, ℕ, ◌/◌, ◌%◌, ◌^◌, Bool, true, false, not, ltb, leb, eqb, ◌&&◌, ◌||◌, List, [], ◌∷◌, ◌++◌, length, Some, None, inl, inr, refl, sym, ap, ◌∙◌, arith}
 use Rattle.std.proofs.lemmas.Bool.{ltb-true, leb-true, eqb-true, false≢true}
 use Rattle.std.specs.Prelude.{IfSome}
 use Rattle.std.specs.List.{AllByRecursion}
@@ -151,289 +151,297 @@ spelled_13 = spelled (102 ∷ []) _ (operand 0 0 0) _ (inr (inl refl)) tt refl
 spelled_14 : Spells (180 ∷ 1 ∷ []) (instr.Mov One (rm.Reg reg.Esp) (src.Imm 1))
 spelled_14 = spelled ([]) _ (operand 0 0 0) _ (inr (inl refl)) tt refl
 
+-- 88 E9
+spelled_15 : Spells (136 ∷ 233 ∷ []) (instr.Mov One (rm.Reg reg.Ecx) (src.Reg reg.Ebp))
+spelled_15 = spelled ([]) _ (operand 233 0 0) _ (inl refl) refl refl
+
+-- 8A FE
+spelled_16 : Spells (138 ∷ 254 ∷ []) (instr.Mov One (rm.Reg reg.Edi) (src.Reg reg.Esi))
+spelled_16 = spelled ([]) _ (operand 254 0 0) _ (inr (inl refl)) refl refl
+
 -- 8D 04 8D 00 00 00 00
-spelled_15 : Spells (141 ∷ 4 ∷ 141 ∷ 0 ∷ 0 ∷ 0 ∷ 0 ∷ []) (instr.Lea Four reg.Eax (at None (Some reg.Ecx) 4 0))
-spelled_15 = spelled ([]) _ (operand 4 141 0) _ (inl refl) refl refl
+spelled_17 : Spells (141 ∷ 4 ∷ 141 ∷ 0 ∷ 0 ∷ 0 ∷ 0 ∷ []) (instr.Lea Four reg.Eax (at None (Some reg.Ecx) 4 0))
+spelled_17 = spelled ([]) _ (operand 4 141 0) _ (inl refl) refl refl
 
 -- 2E 66 2E 8D 41 01
-spelled_16 : Spells (46 ∷ 102 ∷ 46 ∷ 141 ∷ 65 ∷ 1 ∷ []) (instr.Lea Two reg.Eax (at (Some reg.Ecx) None 1 1))
-spelled_16 = spelled (46 ∷ 102 ∷ 46 ∷ []) _ (operand 65 0 1) _ (inl refl) refl refl
+spelled_18 : Spells (46 ∷ 102 ∷ 46 ∷ 141 ∷ 65 ∷ 1 ∷ []) (instr.Lea Two reg.Eax (at (Some reg.Ecx) None 1 1))
+spelled_18 = spelled (46 ∷ 102 ∷ 46 ∷ []) _ (operand 65 0 1) _ (inl refl) refl refl
 
 -- 40
-spelled_17 : Spells (64 ∷ []) (instr.Inc Four (rm.Reg reg.Eax))
-spelled_17 = spelled ([]) _ (operand 0 0 0) _ (inr (inl refl)) tt refl
+spelled_19 : Spells (64 ∷ []) (instr.Inc Four (rm.Reg reg.Eax))
+spelled_19 = spelled ([]) _ (operand 0 0 0) _ (inr (inl refl)) tt refl
 
 -- FE 00
-spelled_18 : Spells (254 ∷ 0 ∷ []) (instr.Inc One (rm.Mem (at (Some reg.Eax) None 1 0)))
-spelled_18 = spelled ([]) _ (operand 0 0 0) _ (inl refl) refl refl
+spelled_20 : Spells (254 ∷ 0 ∷ []) (instr.Inc One (rm.Mem (at (Some reg.Eax) None 1 0)))
+spelled_20 = spelled ([]) _ (operand 0 0 0) _ (inl refl) refl refl
 
 -- 66 4F
-spelled_19 : Spells (102 ∷ 79 ∷ []) (instr.Dec Two (rm.Reg reg.Edi))
-spelled_19 = spelled (102 ∷ []) _ (operand 0 0 0) _ (inr (inl refl)) tt refl
+spelled_21 : Spells (102 ∷ 79 ∷ []) (instr.Dec Two (rm.Reg reg.Edi))
+spelled_21 = spelled (102 ∷ []) _ (operand 0 0 0) _ (inr (inl refl)) tt refl
 
 -- FF 0D 00 00 00 10
-spelled_20 : Spells (255 ∷ 13 ∷ 0 ∷ 0 ∷ 0 ∷ 16 ∷ []) (instr.Dec Four (rm.Mem (at None None 1 268435456)))
-spelled_20 = spelled ([]) _ (operand 13 0 268435456) _ (inl refl) refl refl
+spelled_22 : Spells (255 ∷ 13 ∷ 0 ∷ 0 ∷ 0 ∷ 16 ∷ []) (instr.Dec Four (rm.Mem (at None None 1 268435456)))
+spelled_22 = spelled ([]) _ (operand 13 0 268435456) _ (inl refl) refl refl
 
 -- F6 D4
-spelled_21 : Spells (246 ∷ 212 ∷ []) (instr.Not One (rm.Reg reg.Esp))
-spelled_21 = spelled ([]) _ (operand 212 0 0) _ (inl refl) refl refl
+spelled_23 : Spells (246 ∷ 212 ∷ []) (instr.Not One (rm.Reg reg.Esp))
+spelled_23 = spelled ([]) _ (operand 212 0 0) _ (inl refl) refl refl
 
 -- 66 F7 D0
-spelled_22 : Spells (102 ∷ 247 ∷ 208 ∷ []) (instr.Not Two (rm.Reg reg.Eax))
-spelled_22 = spelled (102 ∷ []) _ (operand 208 0 0) _ (inl refl) refl refl
+spelled_24 : Spells (102 ∷ 247 ∷ 208 ∷ []) (instr.Not Two (rm.Reg reg.Eax))
+spelled_24 = spelled (102 ∷ []) _ (operand 208 0 0) _ (inl refl) refl refl
 
 -- F7 D8
-spelled_23 : Spells (247 ∷ 216 ∷ []) (instr.Neg Four (rm.Reg reg.Eax))
-spelled_23 = spelled ([]) _ (operand 216 0 0) _ (inl refl) refl refl
+spelled_25 : Spells (247 ∷ 216 ∷ []) (instr.Neg Four (rm.Reg reg.Eax))
+spelled_25 = spelled ([]) _ (operand 216 0 0) _ (inl refl) refl refl
 
 -- F6 18
-spelled_24 : Spells (246 ∷ 24 ∷ []) (instr.Neg One (rm.Mem (at (Some reg.Eax) None 1 0)))
-spelled_24 = spelled ([]) _ (operand 24 0 0) _ (inl refl) refl refl
+spelled_26 : Spells (246 ∷ 24 ∷ []) (instr.Neg One (rm.Mem (at (Some reg.Eax) None 1 0)))
+spelled_26 = spelled ([]) _ (operand 24 0 0) _ (inl refl) refl refl
 
 -- F7 E1
-spelled_25 : Spells (247 ∷ 225 ∷ []) (instr.Mul Four (rm.Reg reg.Ecx))
-spelled_25 = spelled ([]) _ (operand 225 0 0) _ (inl refl) refl refl
+spelled_27 : Spells (247 ∷ 225 ∷ []) (instr.Mul Four (rm.Reg reg.Ecx))
+spelled_27 = spelled ([]) _ (operand 225 0 0) _ (inl refl) refl refl
 
 -- 66 F7 E9
-spelled_26 : Spells (102 ∷ 247 ∷ 233 ∷ []) (instr.ImulWide Two (rm.Reg reg.Ecx))
-spelled_26 = spelled (102 ∷ []) _ (operand 233 0 0) _ (inl refl) refl refl
+spelled_28 : Spells (102 ∷ 247 ∷ 233 ∷ []) (instr.ImulWide Two (rm.Reg reg.Ecx))
+spelled_28 = spelled (102 ∷ []) _ (operand 233 0 0) _ (inl refl) refl refl
 
 -- F6 F1
-spelled_27 : Spells (246 ∷ 241 ∷ []) (instr.Div One (rm.Reg reg.Ecx))
-spelled_27 = spelled ([]) _ (operand 241 0 0) _ (inl refl) refl refl
+spelled_29 : Spells (246 ∷ 241 ∷ []) (instr.Div One (rm.Reg reg.Ecx))
+spelled_29 = spelled ([]) _ (operand 241 0 0) _ (inl refl) refl refl
 
 -- F7 F9
-spelled_28 : Spells (247 ∷ 249 ∷ []) (instr.Idiv Four (rm.Reg reg.Ecx))
-spelled_28 = spelled ([]) _ (operand 249 0 0) _ (inl refl) refl refl
+spelled_30 : Spells (247 ∷ 249 ∷ []) (instr.Idiv Four (rm.Reg reg.Ecx))
+spelled_30 = spelled ([]) _ (operand 249 0 0) _ (inl refl) refl refl
 
 -- 0F AF C1
-spelled_29 : Spells (15 ∷ 175 ∷ 193 ∷ []) (instr.Imul Four reg.Eax (rm.Reg reg.Ecx))
-spelled_29 = spelled ([]) _ (operand 193 0 0) _ (inl refl) refl refl
-
--- 66 0F AF 01
-spelled_30 : Spells (102 ∷ 15 ∷ 175 ∷ 1 ∷ []) (instr.Imul Two reg.Eax (rm.Mem (at (Some reg.Ecx) None 1 0)))
-spelled_30 = spelled (102 ∷ []) _ (operand 1 0 0) _ (inl refl) refl refl
-
--- 69 C1 E8 03 00 00
-spelled_31 : Spells (105 ∷ 193 ∷ 232 ∷ 3 ∷ 0 ∷ 0 ∷ []) (instr.ImulBy Four reg.Eax (rm.Reg reg.Ecx) 1000)
+spelled_31 : Spells (15 ∷ 175 ∷ 193 ∷ []) (instr.Imul Four reg.Eax (rm.Reg reg.Ecx))
 spelled_31 = spelled ([]) _ (operand 193 0 0) _ (inl refl) refl refl
 
+-- 66 0F AF 01
+spelled_32 : Spells (102 ∷ 15 ∷ 175 ∷ 1 ∷ []) (instr.Imul Two reg.Eax (rm.Mem (at (Some reg.Ecx) None 1 0)))
+spelled_32 = spelled (102 ∷ []) _ (operand 1 0 0) _ (inl refl) refl refl
+
+-- 69 C1 E8 03 00 00
+spelled_33 : Spells (105 ∷ 193 ∷ 232 ∷ 3 ∷ 0 ∷ 0 ∷ []) (instr.ImulBy Four reg.Eax (rm.Reg reg.Ecx) 1000)
+spelled_33 = spelled ([]) _ (operand 193 0 0) _ (inl refl) refl refl
+
 -- 66 6B C1 80
-spelled_32 : Spells (102 ∷ 107 ∷ 193 ∷ 128 ∷ []) (instr.ImulBy Two reg.Eax (rm.Reg reg.Ecx) 65408)
-spelled_32 = spelled (102 ∷ []) _ (operand 193 0 0) _ (inr (inl refl)) refl refl
+spelled_34 : Spells (102 ∷ 107 ∷ 193 ∷ 128 ∷ []) (instr.ImulBy Two reg.Eax (rm.Reg reg.Ecx) 65408)
+spelled_34 = spelled (102 ∷ []) _ (operand 193 0 0) _ (inr (inl refl)) refl refl
 
 -- C1 E0 05
-spelled_33 : Spells (193 ∷ 224 ∷ 5 ∷ []) (instr.Shift shift.Shl Four (rm.Reg reg.Eax) (count.Imm 5))
-spelled_33 = spelled ([]) _ (operand 224 0 0) _ (inl refl) refl refl
+spelled_35 : Spells (193 ∷ 224 ∷ 5 ∷ []) (instr.Shift shift.Shl Four (rm.Reg reg.Eax) (count.Imm 5))
+spelled_35 = spelled ([]) _ (operand 224 0 0) _ (inl refl) refl refl
 
 -- 66 D1 F8
-spelled_34 : Spells (102 ∷ 209 ∷ 248 ∷ []) (instr.Shift shift.Sar Two (rm.Reg reg.Eax) (count.Imm 1))
-spelled_34 = spelled (102 ∷ []) _ (operand 248 0 0) _ (inr (inl refl)) refl refl
+spelled_36 : Spells (102 ∷ 209 ∷ 248 ∷ []) (instr.Shift shift.Sar Two (rm.Reg reg.Eax) (count.Imm 1))
+spelled_36 = spelled (102 ∷ []) _ (operand 248 0 0) _ (inr (inl refl)) refl refl
 
 -- D2 C8
-spelled_35 : Spells (210 ∷ 200 ∷ []) (instr.Shift shift.Ror One (rm.Reg reg.Eax) count.Cl)
-spelled_35 = spelled ([]) _ (operand 200 0 0) _ (inl refl) refl refl
-
--- 0F A4 C8 03
-spelled_36 : Spells (15 ∷ 164 ∷ 200 ∷ 3 ∷ []) (instr.Shld (rm.Reg reg.Eax) reg.Ecx (count.Imm 3))
-spelled_36 = spelled ([]) _ (operand 200 0 0) _ (inl refl) refl refl
-
--- 0F A5 C8
-spelled_37 : Spells (15 ∷ 165 ∷ 200 ∷ []) (instr.Shld (rm.Reg reg.Eax) reg.Ecx count.Cl)
+spelled_37 : Spells (210 ∷ 200 ∷ []) (instr.Shift shift.Ror One (rm.Reg reg.Eax) count.Cl)
 spelled_37 = spelled ([]) _ (operand 200 0 0) _ (inl refl) refl refl
 
--- 0F AC C8 03
-spelled_38 : Spells (15 ∷ 172 ∷ 200 ∷ 3 ∷ []) (instr.Shrd (rm.Reg reg.Eax) reg.Ecx (count.Imm 3))
+-- 0F A4 C8 03
+spelled_38 : Spells (15 ∷ 164 ∷ 200 ∷ 3 ∷ []) (instr.Shld (rm.Reg reg.Eax) reg.Ecx (count.Imm 3))
 spelled_38 = spelled ([]) _ (operand 200 0 0) _ (inl refl) refl refl
 
--- 0F AD C8
-spelled_39 : Spells (15 ∷ 173 ∷ 200 ∷ []) (instr.Shrd (rm.Reg reg.Eax) reg.Ecx count.Cl)
+-- 0F A5 C8
+spelled_39 : Spells (15 ∷ 165 ∷ 200 ∷ []) (instr.Shld (rm.Reg reg.Eax) reg.Ecx count.Cl)
 spelled_39 = spelled ([]) _ (operand 200 0 0) _ (inl refl) refl refl
 
+-- 0F AC C8 03
+spelled_40 : Spells (15 ∷ 172 ∷ 200 ∷ 3 ∷ []) (instr.Shrd (rm.Reg reg.Eax) reg.Ecx (count.Imm 3))
+spelled_40 = spelled ([]) _ (operand 200 0 0) _ (inl refl) refl refl
+
+-- 0F AD C8
+spelled_41 : Spells (15 ∷ 173 ∷ 200 ∷ []) (instr.Shrd (rm.Reg reg.Eax) reg.Ecx count.Cl)
+spelled_41 = spelled ([]) _ (operand 200 0 0) _ (inl refl) refl refl
+
 -- 55
-spelled_40 : Spells (85 ∷ []) (instr.Push (src.Reg reg.Ebp))
-spelled_40 = spelled ([]) _ (operand 0 0 0) _ (inr (inl refl)) tt refl
+spelled_42 : Spells (85 ∷ []) (instr.Push (src.Reg reg.Ebp))
+spelled_42 = spelled ([]) _ (operand 0 0 0) _ (inr (inl refl)) tt refl
 
 -- 6A FF
-spelled_41 : Spells (106 ∷ 255 ∷ []) (instr.Push (src.Imm 4294967295))
-spelled_41 = spelled ([]) _ (operand 0 0 0) _ (inr (inl refl)) tt refl
-
--- FF 74 24 08
-spelled_42 : Spells (255 ∷ 116 ∷ 36 ∷ 8 ∷ []) (instr.Push (src.Mem (at (Some reg.Esp) None 1 8)))
-spelled_42 = spelled ([]) _ (operand 116 36 8) _ (inl refl) refl refl
-
--- 5D
-spelled_43 : Spells (93 ∷ []) (instr.Pop (rm.Reg reg.Ebp))
+spelled_43 : Spells (106 ∷ 255 ∷ []) (instr.Push (src.Imm 4294967295))
 spelled_43 = spelled ([]) _ (operand 0 0 0) _ (inr (inl refl)) tt refl
 
+-- FF 74 24 08
+spelled_44 : Spells (255 ∷ 116 ∷ 36 ∷ 8 ∷ []) (instr.Push (src.Mem (at (Some reg.Esp) None 1 8)))
+spelled_44 = spelled ([]) _ (operand 116 36 8) _ (inl refl) refl refl
+
+-- 5D
+spelled_45 : Spells (93 ∷ []) (instr.Pop (rm.Reg reg.Ebp))
+spelled_45 = spelled ([]) _ (operand 0 0 0) _ (inr (inl refl)) tt refl
+
 -- 8F 00
-spelled_44 : Spells (143 ∷ 0 ∷ []) (instr.Pop (rm.Mem (at (Some reg.Eax) None 1 0)))
-spelled_44 = spelled ([]) _ (operand 0 0 0) _ (inl refl) refl refl
+spelled_46 : Spells (143 ∷ 0 ∷ []) (instr.Pop (rm.Mem (at (Some reg.Eax) None 1 0)))
+spelled_46 = spelled ([]) _ (operand 0 0 0) _ (inl refl) refl refl
 
 -- 87 C8
-spelled_45 : Spells (135 ∷ 200 ∷ []) (instr.Xchg Four (rm.Reg reg.Eax) reg.Ecx)
-spelled_45 = spelled ([]) _ (operand 200 0 0) _ (inl refl) refl refl
+spelled_47 : Spells (135 ∷ 200 ∷ []) (instr.Xchg Four (rm.Reg reg.Eax) reg.Ecx)
+spelled_47 = spelled ([]) _ (operand 200 0 0) _ (inl refl) refl refl
 
 -- 66 97
-spelled_46 : Spells (102 ∷ 151 ∷ []) (instr.Xchg Two (rm.Reg reg.Eax) reg.Edi)
-spelled_46 = spelled (102 ∷ []) _ (operand 0 0 0) _ (inr (inl refl)) tt refl
+spelled_48 : Spells (102 ∷ 151 ∷ []) (instr.Xchg Two (rm.Reg reg.Eax) reg.Edi)
+spelled_48 = spelled (102 ∷ []) _ (operand 0 0 0) _ (inr (inl refl)) tt refl
 
 -- 0F B6 C1
-spelled_47 : Spells (15 ∷ 182 ∷ 193 ∷ []) (instr.Movzx Four One reg.Eax (rm.Reg reg.Ecx))
-spelled_47 = spelled ([]) _ (operand 193 0 0) _ (inl refl) refl refl
+spelled_49 : Spells (15 ∷ 182 ∷ 193 ∷ []) (instr.Movzx Four One reg.Eax (rm.Reg reg.Ecx))
+spelled_49 = spelled ([]) _ (operand 193 0 0) _ (inl refl) refl refl
 
 -- 0F B7 C1
-spelled_48 : Spells (15 ∷ 183 ∷ 193 ∷ []) (instr.Movzx Four Two reg.Eax (rm.Reg reg.Ecx))
-spelled_48 = spelled ([]) _ (operand 193 0 0) _ (inl refl) refl refl
+spelled_50 : Spells (15 ∷ 183 ∷ 193 ∷ []) (instr.Movzx Four Two reg.Eax (rm.Reg reg.Ecx))
+spelled_50 = spelled ([]) _ (operand 193 0 0) _ (inl refl) refl refl
 
 -- 66 0F BE C1
-spelled_49 : Spells (102 ∷ 15 ∷ 190 ∷ 193 ∷ []) (instr.Movsx Two One reg.Eax (rm.Reg reg.Ecx))
-spelled_49 = spelled (102 ∷ []) _ (operand 193 0 0) _ (inl refl) refl refl
+spelled_51 : Spells (102 ∷ 15 ∷ 190 ∷ 193 ∷ []) (instr.Movsx Two One reg.Eax (rm.Reg reg.Ecx))
+spelled_51 = spelled (102 ∷ []) _ (operand 193 0 0) _ (inl refl) refl refl
 
 -- 0F BF 00
-spelled_50 : Spells (15 ∷ 191 ∷ 0 ∷ []) (instr.Movsx Four Two reg.Eax (rm.Mem (at (Some reg.Eax) None 1 0)))
-spelled_50 = spelled ([]) _ (operand 0 0 0) _ (inl refl) refl refl
+spelled_52 : Spells (15 ∷ 191 ∷ 0 ∷ []) (instr.Movsx Four Two reg.Eax (rm.Mem (at (Some reg.Eax) None 1 0)))
+spelled_52 = spelled ([]) _ (operand 0 0 0) _ (inl refl) refl refl
 
 -- 0F 44 C1
-spelled_51 : Spells (15 ∷ 68 ∷ 193 ∷ []) (instr.Cmov cond.E Four reg.Eax (rm.Reg reg.Ecx))
-spelled_51 = spelled ([]) _ (operand 193 0 0) _ (inl refl) refl refl
+spelled_53 : Spells (15 ∷ 68 ∷ 193 ∷ []) (instr.Cmov cond.E Four reg.Eax (rm.Reg reg.Ecx))
+spelled_53 = spelled ([]) _ (operand 193 0 0) _ (inl refl) refl refl
 
 -- 66 0F 4F C1
-spelled_52 : Spells (102 ∷ 15 ∷ 79 ∷ 193 ∷ []) (instr.Cmov cond.G Two reg.Eax (rm.Reg reg.Ecx))
-spelled_52 = spelled (102 ∷ []) _ (operand 193 0 0) _ (inl refl) refl refl
+spelled_54 : Spells (102 ∷ 15 ∷ 79 ∷ 193 ∷ []) (instr.Cmov cond.G Two reg.Eax (rm.Reg reg.Ecx))
+spelled_54 = spelled (102 ∷ []) _ (operand 193 0 0) _ (inl refl) refl refl
 
 -- 0F 94 C0
-spelled_53 : Spells (15 ∷ 148 ∷ 192 ∷ []) (instr.Setcc cond.E (rm.Reg reg.Eax))
-spelled_53 = spelled ([]) _ (operand 192 0 0) _ (inl refl) refl refl
+spelled_55 : Spells (15 ∷ 148 ∷ 192 ∷ []) (instr.Setcc cond.E (rm.Reg reg.Eax))
+spelled_55 = spelled ([]) _ (operand 192 0 0) _ (inl refl) refl refl
 
 -- 0F 92 04 24
-spelled_54 : Spells (15 ∷ 146 ∷ 4 ∷ 36 ∷ []) (instr.Setcc cond.B (rm.Mem (at (Some reg.Esp) None 1 0)))
-spelled_54 = spelled ([]) _ (operand 4 36 0) _ (inl refl) refl refl
+spelled_56 : Spells (15 ∷ 146 ∷ 4 ∷ 36 ∷ []) (instr.Setcc cond.B (rm.Mem (at (Some reg.Esp) None 1 0)))
+spelled_56 = spelled ([]) _ (operand 4 36 0) _ (inl refl) refl refl
 
 -- 66 98
-spelled_55 : Spells (102 ∷ 152 ∷ []) (instr.Extend Two)
-spelled_55 = spelled (102 ∷ []) _ (operand 0 0 0) _ (inl refl) tt refl
-
--- 98
-spelled_56 : Spells (152 ∷ []) (instr.Extend Four)
-spelled_56 = spelled ([]) _ (operand 0 0 0) _ (inl refl) tt refl
-
--- 66 99
-spelled_57 : Spells (102 ∷ 153 ∷ []) (instr.Spread Two)
+spelled_57 : Spells (102 ∷ 152 ∷ []) (instr.Extend Two)
 spelled_57 = spelled (102 ∷ []) _ (operand 0 0 0) _ (inl refl) tt refl
 
--- 99
-spelled_58 : Spells (153 ∷ []) (instr.Spread Four)
+-- 98
+spelled_58 : Spells (152 ∷ []) (instr.Extend Four)
 spelled_58 = spelled ([]) _ (operand 0 0 0) _ (inl refl) tt refl
 
+-- 66 99
+spelled_59 : Spells (102 ∷ 153 ∷ []) (instr.Spread Two)
+spelled_59 = spelled (102 ∷ []) _ (operand 0 0 0) _ (inl refl) tt refl
+
+-- 99
+spelled_60 : Spells (153 ∷ []) (instr.Spread Four)
+spelled_60 = spelled ([]) _ (operand 0 0 0) _ (inl refl) tt refl
+
 -- 0F BC C1
-spelled_59 : Spells (15 ∷ 188 ∷ 193 ∷ []) (instr.Bsf Four reg.Eax (rm.Reg reg.Ecx))
-spelled_59 = spelled ([]) _ (operand 193 0 0) _ (inl refl) refl refl
+spelled_61 : Spells (15 ∷ 188 ∷ 193 ∷ []) (instr.Bsf Four reg.Eax (rm.Reg reg.Ecx))
+spelled_61 = spelled ([]) _ (operand 193 0 0) _ (inl refl) refl refl
 
 -- 66 0F BD C1
-spelled_60 : Spells (102 ∷ 15 ∷ 189 ∷ 193 ∷ []) (instr.Bsr Two reg.Eax (rm.Reg reg.Ecx))
-spelled_60 = spelled (102 ∷ []) _ (operand 193 0 0) _ (inl refl) refl refl
+spelled_62 : Spells (102 ∷ 15 ∷ 189 ∷ 193 ∷ []) (instr.Bsr Two reg.Eax (rm.Reg reg.Ecx))
+spelled_62 = spelled (102 ∷ []) _ (operand 193 0 0) _ (inl refl) refl refl
 
 -- 0F C8
-spelled_61 : Spells (15 ∷ 200 ∷ []) (instr.Bswap reg.Eax)
-spelled_61 = spelled ([]) _ (operand 0 0 0) _ (inl refl) tt refl
+spelled_63 : Spells (15 ∷ 200 ∷ []) (instr.Bswap reg.Eax)
+spelled_63 = spelled ([]) _ (operand 0 0 0) _ (inl refl) tt refl
 
 -- 0F CF
-spelled_62 : Spells (15 ∷ 207 ∷ []) (instr.Bswap reg.Edi)
-spelled_62 = spelled ([]) _ (operand 0 0 0) _ (inl refl) tt refl
+spelled_64 : Spells (15 ∷ 207 ∷ []) (instr.Bswap reg.Edi)
+spelled_64 = spelled ([]) _ (operand 0 0 0) _ (inl refl) tt refl
 
 -- F3 66 A5
-spelled_63 : Spells (243 ∷ 102 ∷ 165 ∷ []) (instr.Movs Two true)
-spelled_63 = spelled (243 ∷ 102 ∷ []) _ (operand 0 0 0) _ (inl refl) tt refl
+spelled_65 : Spells (243 ∷ 102 ∷ 165 ∷ []) (instr.Movs Two true)
+spelled_65 = spelled (243 ∷ 102 ∷ []) _ (operand 0 0 0) _ (inl refl) tt refl
 
 -- 66 F3 A5
-spelled_64 : Spells (102 ∷ 243 ∷ 165 ∷ []) (instr.Movs Two true)
-spelled_64 = spelled (102 ∷ 243 ∷ []) _ (operand 0 0 0) _ (inl refl) tt refl
+spelled_66 : Spells (102 ∷ 243 ∷ 165 ∷ []) (instr.Movs Two true)
+spelled_66 = spelled (102 ∷ 243 ∷ []) _ (operand 0 0 0) _ (inl refl) tt refl
 
 -- A4
-spelled_65 : Spells (164 ∷ []) (instr.Movs One false)
-spelled_65 = spelled ([]) _ (operand 0 0 0) _ (inl refl) tt refl
+spelled_67 : Spells (164 ∷ []) (instr.Movs One false)
+spelled_67 = spelled ([]) _ (operand 0 0 0) _ (inl refl) tt refl
 
 -- F3 AB
-spelled_66 : Spells (243 ∷ 171 ∷ []) (instr.Stos Four true)
-spelled_66 = spelled (243 ∷ []) _ (operand 0 0 0) _ (inl refl) tt refl
+spelled_68 : Spells (243 ∷ 171 ∷ []) (instr.Stos Four true)
+spelled_68 = spelled (243 ∷ []) _ (operand 0 0 0) _ (inl refl) tt refl
 
 -- EB FE
-spelled_67 : Spells (235 ∷ 254 ∷ []) (instr.Jmp 4294967294)
-spelled_67 = spelled ([]) _ (operand 0 0 0) _ (inr (inl refl)) tt refl
+spelled_69 : Spells (235 ∷ 254 ∷ []) (instr.Jmp 4294967294)
+spelled_69 = spelled ([]) _ (operand 0 0 0) _ (inr (inl refl)) tt refl
 
 -- E9 00 01 00 00
-spelled_68 : Spells (233 ∷ 0 ∷ 1 ∷ 0 ∷ 0 ∷ []) (instr.Jmp 256)
-spelled_68 = spelled ([]) _ (operand 0 0 0) _ (inl refl) tt refl
+spelled_70 : Spells (233 ∷ 0 ∷ 1 ∷ 0 ∷ 0 ∷ []) (instr.Jmp 256)
+spelled_70 = spelled ([]) _ (operand 0 0 0) _ (inl refl) tt refl
 
 -- 3E FF E0
-spelled_69 : Spells (62 ∷ 255 ∷ 224 ∷ []) (instr.JmpTo (rm.Reg reg.Eax))
-spelled_69 = spelled (62 ∷ []) _ (operand 224 0 0) _ (inl refl) refl refl
+spelled_71 : Spells (62 ∷ 255 ∷ 224 ∷ []) (instr.JmpTo (rm.Reg reg.Eax))
+spelled_71 = spelled (62 ∷ []) _ (operand 224 0 0) _ (inl refl) refl refl
 
 -- FF 24 85 54 90 04 08
-spelled_70 : Spells (255 ∷ 36 ∷ 133 ∷ 84 ∷ 144 ∷ 4 ∷ 8 ∷ []) (instr.JmpTo (rm.Mem (at None (Some reg.Eax) 4 134516820)))
-spelled_70 = spelled ([]) _ (operand 36 133 134516820) _ (inl refl) refl refl
+spelled_72 : Spells (255 ∷ 36 ∷ 133 ∷ 84 ∷ 144 ∷ 4 ∷ 8 ∷ []) (instr.JmpTo (rm.Mem (at None (Some reg.Eax) 4 134516820)))
+spelled_72 = spelled ([]) _ (operand 36 133 134516820) _ (inl refl) refl refl
 
 -- FF D0
-spelled_71 : Spells (255 ∷ 208 ∷ []) (instr.CallTo (rm.Reg reg.Eax))
-spelled_71 = spelled ([]) _ (operand 208 0 0) _ (inl refl) refl refl
+spelled_73 : Spells (255 ∷ 208 ∷ []) (instr.CallTo (rm.Reg reg.Eax))
+spelled_73 = spelled ([]) _ (operand 208 0 0) _ (inl refl) refl refl
 
 -- 77 23
-spelled_72 : Spells (119 ∷ 35 ∷ []) (instr.Jcc cond.A 35)
-spelled_72 = spelled ([]) _ (operand 0 0 0) _ (inr (inl refl)) tt refl
+spelled_74 : Spells (119 ∷ 35 ∷ []) (instr.Jcc cond.A 35)
+spelled_74 = spelled ([]) _ (operand 0 0 0) _ (inr (inl refl)) tt refl
 
 -- 0F 84 FA FF FF FF
-spelled_73 : Spells (15 ∷ 132 ∷ 250 ∷ 255 ∷ 255 ∷ 255 ∷ []) (instr.Jcc cond.E 4294967290)
-spelled_73 = spelled ([]) _ (operand 0 0 0) _ (inl refl) tt refl
-
--- E8 10 00 00 00
-spelled_74 : Spells (232 ∷ 16 ∷ 0 ∷ 0 ∷ 0 ∷ []) (instr.Call 16)
-spelled_74 = spelled ([]) _ (operand 0 0 0) _ (inl refl) tt refl
-
--- E8 FA FF FF FF
-spelled_75 : Spells (232 ∷ 250 ∷ 255 ∷ 255 ∷ 255 ∷ []) (instr.Call 4294967290)
+spelled_75 : Spells (15 ∷ 132 ∷ 250 ∷ 255 ∷ 255 ∷ 255 ∷ []) (instr.Jcc cond.E 4294967290)
 spelled_75 = spelled ([]) _ (operand 0 0 0) _ (inl refl) tt refl
 
+-- E8 10 00 00 00
+spelled_76 : Spells (232 ∷ 16 ∷ 0 ∷ 0 ∷ 0 ∷ []) (instr.Call 16)
+spelled_76 = spelled ([]) _ (operand 0 0 0) _ (inl refl) tt refl
+
+-- E8 FA FF FF FF
+spelled_77 : Spells (232 ∷ 250 ∷ 255 ∷ 255 ∷ 255 ∷ []) (instr.Call 4294967290)
+spelled_77 = spelled ([]) _ (operand 0 0 0) _ (inl refl) tt refl
+
 -- C3
-spelled_76 : Spells (195 ∷ []) (instr.Ret 0)
-spelled_76 = spelled ([]) _ (operand 0 0 0) _ (inr (inl refl)) tt refl
+spelled_78 : Spells (195 ∷ []) (instr.Ret 0)
+spelled_78 = spelled ([]) _ (operand 0 0 0) _ (inr (inl refl)) tt refl
 
 -- F3 C3
-spelled_77 : Spells (243 ∷ 195 ∷ []) (instr.Ret 0)
-spelled_77 = spelled (243 ∷ []) _ (operand 0 0 0) _ (inr (inr (inl refl))) tt refl
+spelled_79 : Spells (243 ∷ 195 ∷ []) (instr.Ret 0)
+spelled_79 = spelled (243 ∷ []) _ (operand 0 0 0) _ (inr (inr (inl refl))) tt refl
 
 -- C2 08 00
-spelled_78 : Spells (194 ∷ 8 ∷ 0 ∷ []) (instr.Ret 8)
-spelled_78 = spelled ([]) _ (operand 0 0 0) _ (inl refl) tt refl
-
--- C9
-spelled_79 : Spells (201 ∷ []) (instr.Leave)
-spelled_79 = spelled ([]) _ (operand 0 0 0) _ (inl refl) tt refl
-
--- CD 80
-spelled_80 : Spells (205 ∷ 128 ∷ []) (instr.Int80)
+spelled_80 : Spells (194 ∷ 8 ∷ 0 ∷ []) (instr.Ret 8)
 spelled_80 = spelled ([]) _ (operand 0 0 0) _ (inl refl) tt refl
 
--- FC
-spelled_81 : Spells (252 ∷ []) (instr.Cld)
+-- C9
+spelled_81 : Spells (201 ∷ []) (instr.Leave)
 spelled_81 = spelled ([]) _ (operand 0 0 0) _ (inl refl) tt refl
 
+-- CD 80
+spelled_82 : Spells (205 ∷ 128 ∷ []) (instr.Int80)
+spelled_82 = spelled ([]) _ (operand 0 0 0) _ (inl refl) tt refl
+
+-- FC
+spelled_83 : Spells (252 ∷ []) (instr.Cld)
+spelled_83 = spelled ([]) _ (operand 0 0 0) _ (inl refl) tt refl
+
 -- 66 66 90
-spelled_82 : Spells (102 ∷ 102 ∷ 144 ∷ []) (instr.Nop)
-spelled_82 = spelled (102 ∷ 102 ∷ []) _ (operand 0 0 0) _ (inl refl) tt refl
+spelled_84 : Spells (102 ∷ 102 ∷ 144 ∷ []) (instr.Nop)
+spelled_84 = spelled (102 ∷ 102 ∷ []) _ (operand 0 0 0) _ (inl refl) tt refl
 
 -- 66 66 66 66 66 66 66 66 66 66 66 66 66 66 90
-spelled_83 : Spells (102 ∷ 102 ∷ 102 ∷ 102 ∷ 102 ∷ 102 ∷ 102 ∷ 102 ∷ 102 ∷ 102 ∷ 102 ∷ 102 ∷ 102 ∷ 102 ∷ 144 ∷ []) (instr.Nop)
-spelled_83 = spelled (102 ∷ 102 ∷ 102 ∷ 102 ∷ 102 ∷ 102 ∷ 102 ∷ 102 ∷ 102 ∷ 102 ∷ 102 ∷ 102 ∷ 102 ∷ 102 ∷ []) _ (operand 0 0 0) _ (inl refl) tt refl
+spelled_85 : Spells (102 ∷ 102 ∷ 102 ∷ 102 ∷ 102 ∷ 102 ∷ 102 ∷ 102 ∷ 102 ∷ 102 ∷ 102 ∷ 102 ∷ 102 ∷ 102 ∷ 144 ∷ []) (instr.Nop)
+spelled_85 = spelled (102 ∷ 102 ∷ 102 ∷ 102 ∷ 102 ∷ 102 ∷ 102 ∷ 102 ∷ 102 ∷ 102 ∷ 102 ∷ 102 ∷ 102 ∷ 102 ∷ []) _ (operand 0 0 0) _ (inl refl) tt refl
 
 -- 66 66 2E 0F 1F 84 00 00 00 00 00
-spelled_84 : Spells (102 ∷ 102 ∷ 46 ∷ 15 ∷ 31 ∷ 132 ∷ 0 ∷ 0 ∷ 0 ∷ 0 ∷ 0 ∷ []) (instr.Nop)
-spelled_84 = spelled (102 ∷ 102 ∷ 46 ∷ []) _ (operand 132 0 0) _ (inr (inl refl)) tt refl
+spelled_86 : Spells (102 ∷ 102 ∷ 46 ∷ 15 ∷ 31 ∷ 132 ∷ 0 ∷ 0 ∷ 0 ∷ 0 ∷ 0 ∷ []) (instr.Nop)
+spelled_86 = spelled (102 ∷ 102 ∷ 46 ∷ []) _ (operand 132 0 0) _ (inr (inl refl)) tt refl
 
 -- F3 0F 1E FB
-spelled_85 : Spells (243 ∷ 15 ∷ 30 ∷ 251 ∷ []) (instr.Nop)
-spelled_85 = spelled (243 ∷ []) _ (operand 0 0 0) _ (inr (inr (inl refl))) tt refl
+spelled_87 : Spells (243 ∷ 15 ∷ 30 ∷ 251 ∷ []) (instr.Nop)
+spelled_87 = spelled (243 ∷ []) _ (operand 0 0 0) _ (inr (inr (inl refl))) tt refl
 
 -- ---- reading in vain
 
@@ -538,6 +546,14 @@ nothing_16 = none_spelled (46 ∷ 144 ∷ []) refl
 nothing_17 : (i : Instr) → Spells (243 ∷ 243 ∷ 164 ∷ []) i → ⊥
 unfolding entry_of numbers sib_at after_m m_at after_opcode after_escape at_opcode read_from
 nothing_17 = none_spelled (243 ∷ 243 ∷ 164 ∷ []) refl
+
+-- 66 66 66 66 66 66 66 66 66 66 66 66 66 66 66 90: NOP on 16 bytes
+too_long_0 : (i : Instr) → Spells (102 ∷ 102 ∷ 102 ∷ 102 ∷ 102 ∷ 102 ∷ 102 ∷ 102 ∷ 102 ∷ 102 ∷ 102 ∷ 102 ∷ 102 ∷ 102 ∷ 102 ∷ 144 ∷ []) i → ⊥
+too_long_0 i s = let h = s.short in absurd (omega arith)
+
+-- 2E 2E 2E 2E 2E 2E 2E 2E 2E 2E 2E 2E 2E 2E 2E 2E: 16 prefixes
+too_long_1 : (i : Instr) → Spells (46 ∷ 46 ∷ 46 ∷ 46 ∷ 46 ∷ 46 ∷ 46 ∷ 46 ∷ 46 ∷ 46 ∷ 46 ∷ 46 ∷ 46 ∷ 46 ∷ 46 ∷ 46 ∷ []) i → ⊥
+too_long_1 i s = let h = s.short in absurd (omega arith)
 
 -- ---- the end of the rows
 
@@ -712,7 +728,13 @@ all_spelled = (
                                                                                                                                                                         spelled_83,
                                                                                                                                                                         (
                                                                                                                                                                           spelled_84,
-                                                                                                                                                                          (spelled_85, tt),
+                                                                                                                                                                          (
+                                                                                                                                                                            spelled_85,
+                                                                                                                                                                            (
+                                                                                                                                                                              spelled_86,
+                                                                                                                                                                              (spelled_87, tt),
+                                                                                                                                                                            ),
+                                                                                                                                                                          ),
                                                                                                                                                                         ),
                                                                                                                                                                       ),
                                                                                                                                                                     ),
@@ -834,7 +856,13 @@ none_spelled_there = (
                                 nothing_15,
                                 (
                                   nothing_16,
-                                  (nothing_17, tt),
+                                  (
+                                    nothing_17,
+                                    (
+                                      too_long_0,
+                                      (too_long_1, tt),
+                                    ),
+                                  ),
                                 ),
                               ),
                             ),

@@ -37,6 +37,8 @@ worked =
     (139 ∷ 4 ∷ 100 ∷ [], instr.Mov Four (rm.Reg reg.Eax) (src.Mem (at (Some reg.Esp) None 1 0))) ∷
     (102 ∷ 184 ∷ 52 ∷ 18 ∷ [], instr.Mov Two (rm.Reg reg.Eax) (src.Imm 4660)) ∷
     (180 ∷ 1 ∷ [], instr.Mov One (rm.Reg reg.Esp) (src.Imm 1)) ∷
+    (136 ∷ 233 ∷ [], instr.Mov One (rm.Reg reg.Ecx) (src.Reg reg.Ebp)) ∷
+    (138 ∷ 254 ∷ [], instr.Mov One (rm.Reg reg.Edi) (src.Reg reg.Esi)) ∷
     (141 ∷ 4 ∷ 141 ∷ 0 ∷ 0 ∷ 0 ∷ 0 ∷ [], instr.Lea Four reg.Eax (at None (Some reg.Ecx) 4 0)) ∷
     (46 ∷ 102 ∷ 46 ∷ 141 ∷ 65 ∷ 1 ∷ [], instr.Lea Two reg.Eax (at (Some reg.Ecx) None 1 1)) ∷
     (64 ∷ [], instr.Inc Four (rm.Reg reg.Eax)) ∷
@@ -130,6 +132,8 @@ in_vain =
     (243 ∷ 15 ∷ 30 ∷ 250 ∷ []) ∷
     (46 ∷ 144 ∷ []) ∷
     (243 ∷ 243 ∷ 164 ∷ []) ∷
+    (102 ∷ 102 ∷ 102 ∷ 102 ∷ 102 ∷ 102 ∷ 102 ∷ 102 ∷ 102 ∷ 102 ∷ 102 ∷ 102 ∷ 102 ∷ 102 ∷ 102 ∷ 144 ∷ []) ∷
+    (46 ∷ 46 ∷ 46 ∷ 46 ∷ 46 ∷ 46 ∷ 46 ∷ 46 ∷ 46 ∷ 46 ∷ 46 ∷ 46 ∷ 46 ∷ 46 ∷ 46 ∷ 46 ∷ []) ∷
     []
 
 abbrev pub AllSpelled : Type 0

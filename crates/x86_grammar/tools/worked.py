@@ -28,6 +28,8 @@ SPELLED = [
     ("|8B|04 64|", "Mov Four (rm.Reg reg.Eax) (src.Mem (at (Some reg.Esp) None 1 0))", 0),
     ("66|B8||34 12", "Mov Two (rm.Reg reg.Eax) (src.Imm 4660)", 1),
     ("|B4||01", "Mov One (rm.Reg reg.Esp) (src.Imm 1)", 1),
+    ("|88|E9|", "Mov One (rm.Reg reg.Ecx) (src.Reg reg.Ebp)", 0),
+    ("|8A|FE|", "Mov One (rm.Reg reg.Edi) (src.Reg reg.Esi)", 1),
     # Lea
     ("|8D|04 8D 00 00 00 00|", "Lea Four reg.Eax (at None (Some reg.Ecx) 4 0)", 0),
     ("2E 66 2E|8D|41 01|", "Lea Two reg.Eax (at (Some reg.Ecx) None 1 1)", 0),
@@ -147,6 +149,11 @@ NOTHING = [
     ("F3 F3 A4", "two F3"),
 ]
 
+TOO_LONG = [
+    ("66 66 66 66 66 66 66 66 66 66 66 66 66 66 66 90", "NOP on 16 bytes"),
+    ("2E 2E 2E 2E 2E 2E 2E 2E 2E 2E 2E 2E 2E 2E 2E 2E", "16 prefixes"),
+]
+
 READER = "entry_of numbers sib_at after_m m_at after_opcode after_escape at_opcode read_from"
 
 
@@ -197,15 +204,23 @@ def nothing(at, row):
             f"nothing_{at} = none_spelled ({bytes_}) refl\n")
 
 
+def too_long(at, row):
+    text, why = row
+    bytes_ = listed(numbers(text))
+    return (f"-- {text}: {why}\n"
+            f"too_long_{at} : (i : Instr) → Spells ({bytes_}) i → ⊥\n"
+            f"too_long_{at} i s = let h = s.short in absurd (omega arith)\n")
+
+
 def table(name, type_, rows):
     lines = " ∷\n    ".join(rows + ["[]"])
     return f"abbrev pub {name} : {type_}\n{name} =\n    {lines}\n"
 
 
-def all_of(name, rows):
-    """The lemmas of a table's rows as one fact."""
-    lines = ",\n    (".join(f"{name}_{at}" for at, _ in enumerate(rows))
-    return f"({lines}, tt" + ")" * len(rows)
+def all_of(*tables):
+    """The lemmas of tables' rows as one fact."""
+    names = [f"{name}_{at}" for name, rows in tables for at, _ in enumerate(rows)]
+    return "(" + ",\n    (".join(names) + ", tt" + ")" * len(names)
 
 
 def rewrite(text, begin, end, body):
@@ -220,20 +235,21 @@ def main():
                    "\n".join(spelled(at, row) for at, row in enumerate(SPELLED)))
     text = rewrite(text, "-- ---- what spells nothing, by tools/worked.py\n",
                    "-- ---- the end of the rows\n",
-                   "\n".join(nothing(at, row) for at, row in enumerate(NOTHING)))
+                   "\n".join([nothing(at, row) for at, row in enumerate(NOTHING)]
+                             + [too_long(at, row) for at, row in enumerate(TOO_LONG)]))
     begin = "-- ---- the end of the rows\n"
     text = text[:text.index(begin) + len(begin)] + f"""
 pub all_spelled : AllSpelled
 all_spelled =
-    {all_of("spelled", SPELLED)}
+    {all_of(("spelled", SPELLED))}
 
 pub none_spelled_there : NoneSpelled
 none_spelled_there =
-    {all_of("nothing", NOTHING)}
+    {all_of(("nothing", NOTHING), ("too_long", TOO_LONG))}
 """
     open(path, "w").write(text)
     rows = [f"({listed(numbers(text.replace('|', ' ')))}, instr.{instr})" for text, instr, _ in SPELLED]
-    vain = [f"({listed(numbers(text))})" for text, _ in NOTHING]
+    vain = [f"({listed(numbers(text))})" for text, _ in NOTHING + TOO_LONG]
     path = "specs/Worked.antt"
     text = open(path).read()
     begin = "-- ---- the tables, by tools/worked.py\n"
