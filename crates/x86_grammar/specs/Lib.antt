@@ -1,9 +1,11 @@
 pub mod Attributes
 pub mod Fields
 pub mod Forms
+pub mod Fronts
 pub mod Meaning
 pub mod Operand
 pub mod Parts
+pub mod Reading
 pub mod Rows
 pub mod Spells
 pub mod Table
