@@ -44,7 +44,7 @@ prefix_bytes : (ps : List ℕ) → AllByRecursion (λ b. is_prefix b ≡ true) p
 prefix_bytes [] h = tt
 prefix_bytes (b ∷ ps) h = (prefix_byte b h.0, prefix_bytes ps h.1)
 
-past : (key : ℕ) → 512 ≤ key → entry_of key ≡ entry.Nothing
+pub past : (key : ℕ) → 512 ≤ key → entry_of key ≡ entry.Nothing
 unfolding entry_of
 past key h =
     let out : length ENTRIES ≤ key / 8 = omega arith in

@@ -1,6 +1,7 @@
 //! Which bytes spell which instruction.
 #![tactic(auto)]
 
+mod attributes;
 mod fields;
 mod group;
 mod opcode_map;
@@ -8,6 +9,7 @@ mod reading;
 mod row;
 mod spelling;
 
+pub use attributes::{can_half, half_in, has_operand, imm_size, key_of, prefixes_fit, width_of};
 pub use group::member;
 pub use opcode_map::{ENTRIES, entry_at, opcode_map_is_right};
 pub use reading::{Seen, reading_is_right};
