@@ -6,6 +6,6 @@ pub mod LittleEndian
 pub mod Map
 pub mod Means
 pub mod Operands
-pub mod Sound
+pub mod Sees
 pub mod Whole
 pub mod Worked
