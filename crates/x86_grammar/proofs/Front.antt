@@ -228,3 +228,123 @@ some_more false k e = let lt = ltb-true 0 k e in omega arith
 
 escaped_at : (r : Row) (h : Bool) → ltb (key_of r) 256 ≡ false → Escaped (can_half r) (any_halves r) (any_segments r) (can_hint r) (rep_fits r true) (one_if (has_operand r) + imm_size r h)
 escaped_at r h e = record { no_hint = hint_row r e; alone = alone_row r e; long = λ k. some_more (has_operand r) (imm_size r h) (long_row r h e k) }
+
+-- ---- one more prefix wants no fewer bytes in all
+
+abbrev Least : ℕ → ℕ → ℕ → ℕ → ℕ → Type 0
+Least h s x p n = Within (least_of h s x p) n
+
+one_within : (n : ℕ) → Within (Some 1) (suc n)
+one_within n = record { value = 1; is = refl; least = omega arith }
+
+-- k bytes behind one more prefix leave room for j
+fewer_bytes : (j k n : ℕ) → j ≤ k → Within (Some k) n → Within (Some j) (suc n)
+fewer_bytes j k n le w = let e : k ≡ w.value = (let f = w.is in (cc)) in record { value = j; is = refl; least = omega (arith, e, le, w.least) }
+
+nothing_within : {A : Type 0} (n : ℕ) → Within None n → A
+nothing_within n w = let e = w.is in absurd cc
+
+fewer_halves : (h s x p n : ℕ) → Least (suc h) s x p n → Least h s x p (suc n)
+fewer_halves h zero zero zero n w = one_within n
+fewer_halves zero zero zero (suc zero) n w = one_within n
+fewer_halves zero zero zero (suc (suc p)) n w = nothing_within n w
+fewer_halves (suc h) zero zero (suc p) n w = nothing_within n w
+fewer_halves h zero (suc x) p n w = nothing_within n w
+fewer_halves zero (suc s) zero zero n w = fewer_bytes 2 2 n (lit≤ tt) w
+fewer_halves (suc zero) (suc s) zero zero n w = fewer_bytes 2 3 n (lit≤ tt) w
+fewer_halves (suc (suc h)) (suc s) zero zero n w = fewer_bytes 3 3 n (lit≤ tt) w
+fewer_halves zero (suc s) zero (suc p) n w = nothing_within n w
+fewer_halves (suc h) (suc s) zero (suc p) n w = nothing_within n w
+fewer_halves zero (suc s) (suc x) p n w = nothing_within n w
+fewer_halves (suc h) (suc s) (suc x) p n w = nothing_within n w
+
+fewer_segments : (h s x p n : ℕ) → Least h (suc s) x p n → Least h s x p (suc n)
+fewer_segments h zero zero zero n w = one_within n
+fewer_segments zero (suc s) zero zero n w = fewer_bytes 2 2 n (lit≤ tt) w
+fewer_segments (suc zero) (suc s) zero zero n w = fewer_bytes 2 2 n (lit≤ tt) w
+fewer_segments (suc (suc h)) (suc s) zero zero n w = fewer_bytes 3 3 n (lit≤ tt) w
+fewer_segments zero s zero (suc p) n w = nothing_within n w
+fewer_segments (suc zero) s zero (suc p) n w = nothing_within n w
+fewer_segments (suc (suc h)) s zero (suc p) n w = nothing_within n w
+fewer_segments zero s (suc x) p n w = nothing_within n w
+fewer_segments (suc zero) s (suc x) p n w = nothing_within n w
+fewer_segments (suc (suc h)) s (suc x) p n w = nothing_within n w
+
+fewer_hints : (h s x p n : ℕ) → Least h s (suc x) p n → Least h s x p (suc n)
+fewer_hints zero zero zero zero n w = one_within n
+fewer_hints zero zero zero (suc p) n w = nothing_within n w
+fewer_hints zero zero (suc x) p n w = nothing_within n w
+fewer_hints (suc h) zero x p n w = nothing_within n w
+fewer_hints zero (suc s) x p n w = nothing_within n w
+fewer_hints (suc zero) (suc s) x p n w = nothing_within n w
+fewer_hints (suc (suc h)) (suc s) x p n w = nothing_within n w
+
+fewer_repeats : (h s x p n : ℕ) → Least h s x (suc p) n → Least h s x p (suc n)
+fewer_repeats zero zero zero zero n w = one_within n
+fewer_repeats (suc zero) zero zero zero n w = one_within n
+fewer_repeats zero zero zero (suc p) n w = nothing_within n w
+fewer_repeats (suc zero) zero zero (suc p) n w = nothing_within n w
+fewer_repeats (suc (suc h)) zero zero p n w = nothing_within n w
+fewer_repeats zero zero (suc zero) p n w = nothing_within n w
+fewer_repeats zero zero (suc (suc x)) p n w = nothing_within n w
+fewer_repeats (suc h) zero (suc x) p n w = nothing_within n w
+fewer_repeats zero (suc s) zero p n w = nothing_within n w
+fewer_repeats zero (suc s) (suc x) p n w = nothing_within n w
+fewer_repeats (suc zero) (suc s) zero p n w = nothing_within n w
+fewer_repeats (suc zero) (suc s) (suc x) p n w = nothing_within n w
+fewer_repeats (suc (suc h)) (suc s) zero p n w = nothing_within n w
+fewer_repeats (suc (suc h)) (suc s) (suc x) p n w = nothing_within n w
+
+fewer : (c : Counts) (b n : ℕ) → is_prefix b ≡ true → Within (least_opcode (more c b)) n → Within (least_opcode c) (suc n)
+fewer c b n h w =
+    let P : ℕ → Type 0 = λ b. Within (least_opcode (more c b)) n in
+    elim (or_cases (eqb b 102 || eqb b 46 || eqb b 62) (eqb b 243) h) [
+      | inr e ↦ fewer_repeats _ _ _ _ n (same_least _ _ _ _ _ _ _ _ n (sym (add-zero c.halves)) (sym (add-zero c.segments)) (sym (add-zero c.hints)) (sym (add-one c.repeats)) (subst P (eqb-true b 243 e) w))
+      | inl k ↦ elim (or_cases (eqb b 102 || eqb b 46) (eqb b 62) k) [
+        | inr e ↦ fewer_hints _ _ _ _ n (same_least _ _ _ _ _ _ _ _ n (sym (add-zero c.halves)) (sym (add-zero c.segments)) (sym (add-one c.hints)) (sym (add-zero c.repeats)) (subst P (eqb-true b 62 e) w))
+        | inl l ↦ elim (or_cases (eqb b 102) (eqb b 46) l) [
+          | inl e ↦ fewer_halves _ _ _ _ n (same_least _ _ _ _ _ _ _ _ n (sym (add-one c.halves)) (sym (add-zero c.segments)) (sym (add-zero c.hints)) (sym (add-zero c.repeats)) (subst P (eqb-true b 102 e) w))
+          | inr e ↦ fewer_segments _ _ _ _ n (same_least _ _ _ _ _ _ _ _ n (sym (add-zero c.halves)) (sym (add-one c.segments)) (sym (add-zero c.hints)) (sym (add-zero c.repeats)) (subst P (eqb-true b 46 e) w))
+        ]
+      ]
+    ]
+
+-- ---- the opcode
+
+module _ (r : Row) (c : Counts) (t : List ℕ) (i : Instr) (p : prefixes_fit r c ≡ true) (long : one_if (has_operand r) + imm_size r (half_in r c) ≤ length t) (n : ℕ) (there : row_at (key_of r) n ≡ Some r) (s : Sees (after_opcode (entry_of (key_of r)) c) t i) where
+  first_within : Within (least_opcode c) (length (opcode_bytes (key_of r) ++ t))
+  first_within =
+      let w = least_ok (least_length r) _ _ _ _ (rep_fits r) (attributes_at r (least_some r)) _ _ _ _ (fit_of r c p) in
+      record { value = w.value; is = w.is; least = omega (arith, w.least, long, length-append (opcode_bytes (key_of r)) t) }
+
+  escaped_within : ltb (key_of r) 256 ≡ false → Within (least_escaped c) (suc (length t))
+  escaped_within e =
+      let w = escaped_ok (one_if (has_operand r) + imm_size r (half_in r c)) _ _ _ _ (rep_fits r) (escaped_at r (half_in r c) e) _ _ _ _ (fit_of r c p) in
+      record { value = w.value; is = w.is; least = omega (arith, w.least, long) }
+
+  one_byte : Within (least_opcode c) (suc (length t)) → Sees (read_from c) (key_of r ∷ t) i
+  unfolding read_from at_opcode
+  one_byte w = Sees-cons (read_from c) (after_opcode (entry_of (key_of r)) c) (key_of r) t i (λ bytes. rw (no_prefix r n there, no_escape r n there) refl) (needs_within _ _ w) s
+
+  two_bytes : (k : ℕ) → 256 + k ≡ key_of r → ltb (key_of r) 256 ≡ false → Within (least_opcode c) (suc (suc (length t))) → Sees (read_from c) (15 ∷ k ∷ t) i
+  unfolding read_from at_opcode after_escape
+  two_bytes k e b w =
+      let inner : Sees (after_escape c) (k ∷ t) i = Sees-cons (after_escape c) (after_opcode (entry_of (key_of r)) c) k t i (λ bytes. ap (λ (x : ℕ). after_opcode (entry_of x) c bytes) e) (needs_within _ _ (escaped_within b)) s in
+      Sees-cons (read_from c) (after_escape c) 15 (k ∷ t) i (λ bytes. refl) (needs_within _ _ w) inner
+
+  front_cases : (b : Bool) → ltb (key_of r) 256 ≡ b → Within (least_opcode c) (length (cond b (key_of r ∷ []) (15 ∷ (key_of r - 256) ∷ []) ++ t)) → Sees (read_from c) (cond b (key_of r ∷ []) (15 ∷ (key_of r - 256) ∷ []) ++ t) i
+  front_cases true e w = one_byte w
+  front_cases false e w = two_bytes (key_of r - 256) (omega (arith, ltb-false _ _ e)) e w
+
+  pub front_sees : Sees (read_from c) (opcode_bytes (key_of r) ++ t) i
+  front_sees = front_cases (ltb (key_of r) 256) refl first_within
+
+-- ---- the prefixes
+
+pub prefixes_see : (ps : List ℕ) (c : Counts) (t : List ℕ) (i : Instr) → AllByRecursion (λ b. is_prefix b ≡ true) ps → 0 < length t → Sees (read_from (counted c ps)) t i → Sees (read_from c) (ps ++ t) i
+unfolding read_from
+prefixes_see [] c t i all lt s = s
+prefixes_see (b ∷ ps) c t i all lt s =
+    let inner = prefixes_see ps (more c b) t i all.1 lt s in
+    let k = inner.cut [] (ps ++ t) refl (omega (arith, length-append ps t)) in
+    Sees-cons (read_from c) (read_from (more c b)) b (ps ++ t) i (λ bytes. rw (all.0) refl) (needs_within _ _ (fewer c b _ all.0 (within_needs _ _ k))) inner
