@@ -126,8 +126,8 @@ least_length r = length (opcode_bytes (key_of r)) + one_if (has_operand r)
 least_some : (r : Row) → 1 ≤ least_length r
 least_some r = omega (arith, opcode_some (key_of r))
 
-few : (half rep : Bool) (n : ℕ) → 1 ≤ n → Attributes half false false false rep n
-few half rep n le = record { some = le; segments = λ e. absurd (false≢true e); both = λ e. absurd (false≢true e); hints = λ e. absurd (false≢true e); alone = λ e. (refl, refl) }
+plain_row : (half rep : Bool) (n : ℕ) → 1 ≤ n → Attributes half false false false rep n
+plain_row half rep n le = record { some = le; segments = λ e. absurd (false≢true e); both = λ e. absurd (false≢true e); hints = λ e. absurd (false≢true e); alone = λ e. (refl, refl) }
 
 -- no prefix but one 3E
 hinted : Attributes false false false true false 2
@@ -139,7 +139,7 @@ attributes_at row.NopLong h = record { some = h; segments = λ e. lit≤ tt; bot
 attributes_at row.Nop h = record { some = h; segments = λ e. absurd (false≢true e); both = λ e. absurd (false≢true e); hints = λ e. absurd (false≢true e); alone = λ e. absurd (false≢true e) }
 attributes_at row.JmpTo h = hinted
 attributes_at row.CallTo h = hinted
-attributes_at _ h = few _ _ _ h
+attributes_at _ h = plain_row _ _ _ h
 
 -- ---- the same behind 0F
 
@@ -247,16 +247,10 @@ nothing_within n w = let e = w.is in absurd cc
 fewer_halves : (h s x p n : ℕ) → Least (suc h) s x p n → Least h s x p (suc n)
 fewer_halves h zero zero zero n w = one_within n
 fewer_halves zero zero zero (suc zero) n w = one_within n
-fewer_halves zero zero zero (suc (suc p)) n w = nothing_within n w
-fewer_halves (suc h) zero zero (suc p) n w = nothing_within n w
-fewer_halves h zero (suc x) p n w = nothing_within n w
 fewer_halves zero (suc s) zero zero n w = fewer_bytes 2 2 n (lit≤ tt) w
 fewer_halves (suc zero) (suc s) zero zero n w = fewer_bytes 2 3 n (lit≤ tt) w
 fewer_halves (suc (suc h)) (suc s) zero zero n w = fewer_bytes 3 3 n (lit≤ tt) w
-fewer_halves zero (suc s) zero (suc p) n w = nothing_within n w
-fewer_halves (suc h) (suc s) zero (suc p) n w = nothing_within n w
-fewer_halves zero (suc s) (suc x) p n w = nothing_within n w
-fewer_halves (suc h) (suc s) (suc x) p n w = nothing_within n w
+fewer_halves _ _ _ _ n w = nothing_within n w
 
 fewer_segments : (h s x p n : ℕ) → Least h (suc s) x p n → Least h s x p (suc n)
 fewer_segments h zero zero zero n w = one_within n

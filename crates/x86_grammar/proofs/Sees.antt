@@ -51,70 +51,70 @@ Sees-as f g t i e s = record {
 -- ---- the numbers at the end
 
 module _ (r : Row) (c : Counts) (m s : ℕ) where
-  abbrev pub isz : ℕ
-  isz = imm_size r (half_in r c)
+  abbrev pub number_size : ℕ
+  number_size = imm_size r (half_in r c)
 
   abbrev pub built : ℕ → ℕ → Option Instr
   built d v = build r (half_in r c) (eqb c.repeats 1) (m / 8 % 8) (rm_of m s d) v
 
-  numbers_whole : (size d v : ℕ) (i : Instr) → d < 256 ^ size → v < 256 ^ isz → built d v ≡ Some i → (rest : List ℕ) → numbers r c m s size ((le size d ++ le isz v) ++ rest) ≡ Found i (length rest)
+  numbers_whole : (size d v : ℕ) (i : Instr) → d < 256 ^ size → v < 256 ^ number_size → built d v ≡ Some i → (rest : List ℕ) → numbers r c m s size ((le size d ++ le number_size v) ++ rest) ≡ Found i (length rest)
   unfolding numbers
   numbers_whole size d v i dlt vlt b rest =
       let ld = length-le size d in
-      let lv = length-le isz v in
-      let all : length (le size d ++ (le isz v ++ rest)) ≡ size + isz + length rest = simp length-append (omega arith) in
-      let long : ltb (length (le size d ++ (le isz v ++ rest))) (size + isz) ≡ false = le-ltb _ _ (omega arith) in
-      let left : length (le size d ++ (le isz v ++ rest)) - (size + isz) ≡ length rest = omega arith in
-      let fd : from_le size (le size d ++ (le isz v ++ rest)) ≡ d = from_le-le size d (le isz v ++ rest) dlt in
-      let dr : drop size (le size d ++ (le isz v ++ rest)) ≡ le isz v ++ rest = drop_at (le size d) (le isz v ++ rest) size ld in
-      let fv : from_le isz (le isz v ++ rest) ≡ v = from_le-le isz v rest vlt in
-      ap (numbers r c m s size) (append_assoc (le size d) (le isz v) rest) ∙ rw (long, fd, dr, fv, b, left) refl
+      let lv = length-le number_size v in
+      let all : length (le size d ++ (le number_size v ++ rest)) ≡ size + number_size + length rest = simp length-append (omega arith) in
+      let long : ltb (length (le size d ++ (le number_size v ++ rest))) (size + number_size) ≡ false = le-ltb _ _ (omega arith) in
+      let left : length (le size d ++ (le number_size v ++ rest)) - (size + number_size) ≡ length rest = omega arith in
+      let fd : from_le size (le size d ++ (le number_size v ++ rest)) ≡ d = from_le-le size d (le number_size v ++ rest) dlt in
+      let dr : drop size (le size d ++ (le number_size v ++ rest)) ≡ le number_size v ++ rest = drop_at (le size d) (le number_size v ++ rest) size ld in
+      let fv : from_le number_size (le number_size v ++ rest) ≡ v = from_le-le number_size v rest vlt in
+      ap (numbers r c m s size) (append_assoc (le size d) (le number_size v) rest) ∙ rw (long, fd, dr, fv, b, left) refl
 
-  numbers_cut : (size d v : ℕ) (a z : List ℕ) → le size d ++ le isz v ≡ a ++ z → 0 < length z → Cut (numbers r c m s size a) (length z)
+  numbers_cut : (size d v : ℕ) (a z : List ℕ) → le size d ++ le number_size v ≡ a ++ z → 0 < length z → Cut (numbers r c m s size a) (length z)
   unfolding numbers
   numbers_cut size d v a z e lt =
       let ld = length-le size d in
-      let lv = length-le isz v in
-      let n : length a + length z ≡ size + isz = omega (arith, ap length e, length-append (le size d) (le isz v), length-append a z) in
-      let short : ltb (length a) (size + isz) ≡ true = lt-ltb _ _ (omega arith) in
-      record { wanted = size + isz - length a; is = rw short refl; least = omega arith }
+      let lv = length-le number_size v in
+      let n : length a + length z ≡ size + number_size = omega (arith, ap length e, length-append (le size d) (le number_size v), length-append a z) in
+      let short : ltb (length a) (size + number_size) ≡ true = lt-ltb _ _ (omega arith) in
+      record { wanted = size + number_size - length a; is = rw short refl; least = omega arith }
 
-  pub numbers_sees : (size d v : ℕ) (i : Instr) → d < 256 ^ size → v < 256 ^ isz → built d v ≡ Some i → Sees (numbers r c m s size) (le size d ++ le isz v) i
+  pub numbers_sees : (size d v : ℕ) (i : Instr) → d < 256 ^ size → v < 256 ^ number_size → built d v ≡ Some i → Sees (numbers r c m s size) (le size d ++ le number_size v) i
   numbers_sees size d v i dlt vlt b = record { whole = numbers_whole size d v i dlt vlt b; cut = numbers_cut size d v }
 
 -- ---- ModRM and SIB
 
-least_disp_is : (m : ℕ) (five : Bool) → mod_size m false ≤ mod_size m five
-least_disp_is zero true = omega arith
-least_disp_is zero false = omega arith
-least_disp_is (suc zero) five = omega arith
-least_disp_is (suc (suc zero)) five = omega arith
-least_disp_is (suc (suc (suc n))) five = omega arith
+least_disp_below : (m : ℕ) (five : Bool) → mod_size m false ≤ mod_size m five
+least_disp_below zero true = omega arith
+least_disp_below zero false = omega arith
+least_disp_below (suc zero) five = omega arith
+least_disp_below (suc (suc zero)) five = omega arith
+least_disp_below (suc (suc (suc n))) five = omega arith
 
 module _ (r : Row) (c : Counts) (m : ℕ) where
-  sib_sees : (s d v : ℕ) (i : Instr) → d < 256 ^ disp_size m s → v < 256 ^ isz r c m s → built r c m s d v ≡ Some i → Sees (sib_at r c m) (s ∷ (le (disp_size m s) d ++ le (isz r c m s) v)) i
+  sib_sees : (s d v : ℕ) (i : Instr) → d < 256 ^ disp_size m s → v < 256 ^ number_size r c m s → built r c m s d v ≡ Some i → Sees (sib_at r c m) (s ∷ (le (disp_size m s) d ++ le (number_size r c m s) v)) i
   unfolding sib_at
   sib_sees s d v i dlt vlt b =
-      let t = le (disp_size m s) d ++ le (isz r c m s) v in
-      let n : length t ≡ disp_size m s + isz r c m s = omega (arith, length-append (le (disp_size m s) d) (le (isz r c m s) v), length-le (disp_size m s) d, length-le (isz r c m s) v) in
-      let low = least_disp_is (m / 64) (eqb (low_of m s) 5) in
-      Sees-cons (sib_at r c m) (numbers r c m s (disp_size m s)) s t i (λ bytes. refl) (record { wanted = 1 + (least_disp m + isz r c m s); is = refl; least = omega arith }) (numbers_sees r c m s (disp_size m s) d v i dlt vlt b)
+      let t = le (disp_size m s) d ++ le (number_size r c m s) v in
+      let n : length t ≡ disp_size m s + number_size r c m s = omega (arith, length-append (le (disp_size m s) d) (le (number_size r c m s) v), length-le (disp_size m s) d, length-le (number_size r c m s) v) in
+      let low = least_disp_below (m / 64) (eqb (low_of m s) 5) in
+      Sees-cons (sib_at r c m) (numbers r c m s (disp_size m s)) s t i (λ bytes. refl) (record { wanted = 1 + (least_disp m + number_size r c m s); is = refl; least = omega arith }) (numbers_sees r c m s (disp_size m s) d v i dlt vlt b)
 
   abbrev pub behind_m : ℕ → ℕ → ℕ → List ℕ
-  behind_m s d v = sibs (has_sib m) s ++ (le (disp_size m s) d ++ le (isz r c m s) v)
+  behind_m s d v = sibs (has_sib m) s ++ (le (disp_size m s) d ++ le (number_size r c m s) v)
 
-  sib_cases : (x : Bool) (s d v : ℕ) (i : Instr) → has_sib m ≡ x → (has_sib m ≡ false → s ≡ 0) → d < 256 ^ disp_size m s → v < 256 ^ isz r c m s → built r c m s d v ≡ Some i → Sees (λ bytes. cond x (sib_at r c m bytes) (numbers r c m 0 (disp_size m 0) bytes)) (sibs x s ++ (le (disp_size m s) d ++ le (isz r c m s) v)) i
+  sib_cases : (x : Bool) (s d v : ℕ) (i : Instr) → has_sib m ≡ x → (has_sib m ≡ false → s ≡ 0) → d < 256 ^ disp_size m s → v < 256 ^ number_size r c m s → built r c m s d v ≡ Some i → Sees (λ bytes. cond x (sib_at r c m bytes) (numbers r c m 0 (disp_size m 0) bytes)) (sibs x s ++ (le (disp_size m s) d ++ le (number_size r c m s) v)) i
   sib_cases true s d v i e none dlt vlt b = sib_sees s d v i dlt vlt b
   sib_cases false s d v i e none dlt vlt b =
-      let P : ℕ → Type 0 = λ k. Sees (numbers r c m k (disp_size m k)) (le (disp_size m s) d ++ le (isz r c m s) v) i in
+      let P : ℕ → Type 0 = λ k. Sees (numbers r c m k (disp_size m k)) (le (disp_size m s) d ++ le (number_size r c m s) v) i in
       subst P (none e) (numbers_sees r c m s (disp_size m s) d v i dlt vlt b)
 
-  pub after_m_sees : (s d v : ℕ) (i : Instr) → prefixes_fit r c ≡ true → (has_sib m ≡ false → s ≡ 0) → d < 256 ^ disp_size m s → v < 256 ^ isz r c m s → built r c m s d v ≡ Some i → Sees (after_m r c m) (behind_m s d v) i
+  pub after_m_sees : (s d v : ℕ) (i : Instr) → prefixes_fit r c ≡ true → (has_sib m ≡ false → s ≡ 0) → d < 256 ^ disp_size m s → v < 256 ^ number_size r c m s → built r c m s d v ≡ Some i → Sees (after_m r c m) (behind_m s d v) i
   unfolding after_m
   after_m_sees s d v i p none dlt vlt b = Sees-as _ (λ bytes. cond (has_sib m) (sib_at r c m bytes) (numbers r c m 0 (disp_size m 0) bytes)) _ i (λ bytes. rw p refl) (sib_cases (has_sib m) s d v i refl none dlt vlt b)
 
-  behind_m-length : (s d v : ℕ) → isz r c m s ≤ length (behind_m s d v)
-  behind_m-length s d v = simp length-append (omega (arith, length-le (isz r c m s) v))
+  behind_m-length : (s d v : ℕ) → number_size r c m s ≤ length (behind_m s d v)
+  behind_m-length s d v = simp length-append (omega (arith, length-le (number_size r c m s) v))
 
 -- ---- the easiest row of a group
 
@@ -148,8 +148,8 @@ unit_easy full q c (suc (suc (suc (suc (suc (suc (suc zero))))))) e f = easier _
 unit_easy full q c (suc (suc (suc (suc (suc (suc (suc (suc n)))))))) e f = absurd (none_row q e)
 
 -- the test of the prefixes for a member of FE and FF
-abbrev fit : Bool → Bool → Counts → Bool
-fit half hint c = ((eqb c.halves 0 || (eqb c.halves 1 && half)) || false) && (eqb c.segments 0 || false) && (eqb c.hints 0 || (eqb c.hints 1 && hint)) && ltb c.repeats 2 && not (eqb c.repeats 1)
+abbrev step_fit : Bool → Bool → Counts → Bool
+step_fit half hint c = ((eqb c.halves 0 || (eqb c.halves 1 && half)) || false) && (eqb c.segments 0 || false) && (eqb c.hints 0 || (eqb c.hints 1 && hint)) && ltb c.repeats 2 && not (eqb c.repeats 1)
 
 no_hint_bools : (a b d x y e f half hint : Bool) → x ≡ true → ((a || (b && half)) || false) && (d || false) && (x || (y && hint)) && e && f ≡ true → ((a || (b && true)) || false) && (d || false) && (x || (y && false)) && e && f ≡ true
 no_hint_bools true b d true y e f half hint q h = h
@@ -158,7 +158,7 @@ no_hint_bools false true d true y e f false hint q h = absurd (false≢true h)
 no_hint_bools false false d true y e f half hint q h = absurd (false≢true h)
 no_hint_bools a b d false y e f half hint q h = absurd (false≢true q)
 
-no_hint_fit : (half hint : Bool) (c : Counts) → eqb c.hints 0 ≡ true → fit half hint c ≡ true → fit true false c ≡ true
+no_hint_fit : (half hint : Bool) (c : Counts) → eqb c.hints 0 ≡ true → step_fit half hint c ≡ true → step_fit true false c ≡ true
 no_hint_fit half hint c q e = no_hint_bools (eqb c.halves 0) (eqb c.halves 1) (eqb c.segments 0) (eqb c.hints 0) (eqb c.hints 1) (ltb c.repeats 2) (not (eqb c.repeats 1)) half hint q e
 
 hint_bools : (a d x y e f : Bool) → x ≡ false → a && d && (x || (y && false)) && e && f ≡ true → ⊥
@@ -168,17 +168,17 @@ hint_bools true true true y e f q h = absurd (false≢true (sym q))
 hint_bools true true false true e f q h = absurd (false≢true h)
 hint_bools true true false false e f q h = absurd (false≢true h)
 
-hint_fit : (half : Bool) (c : Counts) → eqb c.hints 0 ≡ false → fit half false c ≡ true → ⊥
+hint_fit : (half : Bool) (c : Counts) → eqb c.hints 0 ≡ false → step_fit half false c ≡ true → ⊥
 hint_fit half c q e = hint_bools ((eqb c.halves 0 || (eqb c.halves 1 && half)) || false) (eqb c.segments 0 || false) (eqb c.hints 0) (eqb c.hints 1) (ltb c.repeats 2) (not (eqb c.repeats 1)) q e
 
 module _ (c : Counts) (q : Row) (f : prefixes_fit q c ≡ true) where
   -- a row that knows no 3E
-  no_hint_easy : (x half : Bool) (s : Row) → eqb c.hints 0 ≡ x → (prefixes_fit s c ≡ true → fit half false c ≡ true) → Some s ≡ Some q → Easier (cond x (row.Inc true) row.CallTo) q c
+  no_hint_easy : (x half : Bool) (s : Row) → eqb c.hints 0 ≡ x → (prefixes_fit s c ≡ true → step_fit half false c ≡ true) → Some s ≡ Some q → Easier (cond x (row.Inc true) row.CallTo) q c
   no_hint_easy true half s b p e = easier (row.Inc true) s q c (λ g. no_hint_fit half false c b (p g)) (omega arith) e f
   no_hint_easy false half s b p e = easier row.CallTo s q c (λ g. absurd (hint_fit half c b (p g))) (omega arith) e f
 
   -- a row that knows one
-  hint_easy : (x : Bool) (s : Row) → eqb c.hints 0 ≡ x → (prefixes_fit s c ≡ true → fit false true c ≡ true) → Some s ≡ Some q → Easier (cond x (row.Inc true) row.CallTo) q c
+  hint_easy : (x : Bool) (s : Row) → eqb c.hints 0 ≡ x → (prefixes_fit s c ≡ true → step_fit false true c ≡ true) → Some s ≡ Some q → Easier (cond x (row.Inc true) row.CallTo) q c
   hint_easy true s b p e = easier (row.Inc true) s q c (λ g. no_hint_fit false true c b (p g)) (omega arith) e f
   hint_easy false s b p e = easier row.CallTo s q c p (omega arith) e f
 
@@ -219,7 +219,7 @@ module _ (r : Row) (c : Counts) (e : Entry) (p : prefixes_fit r c ≡ true) wher
   unfolding m_at
   m_at_sees q m t i h f le s = Sees-cons (m_at e q c) (after_m r c m) m t i (λ bytes. ap (λ (o : Option Row). of_row o c m bytes) h) (record { wanted = 1 + imm_size q (half_in q c); is = rw f refl; least = omega arith }) s
 
-  pub opcode_sees : (m s d v : ℕ) (i : Instr) → has_operand r ≡ true → row_in e (m / 8 % 8) ≡ Some r → (has_sib m ≡ false → s ≡ 0) → d < 256 ^ disp_size m s → v < 256 ^ isz r c m s → built r c m s d v ≡ Some i → Sees (after_opcode e c) (m ∷ behind_m r c m s d v) i
+  pub opcode_sees : (m s d v : ℕ) (i : Instr) → has_operand r ≡ true → row_in e (m / 8 % 8) ≡ Some r → (has_sib m ≡ false → s ≡ 0) → d < 256 ^ disp_size m s → v < 256 ^ number_size r c m s → built r c m s d v ≡ Some i → Sees (after_opcode e c) (m ∷ behind_m r c m s d v) i
   unfolding after_opcode
   opcode_sees m s d v i o h none dlt vlt b =
       let t = after_m_sees r c m s d v i p none dlt vlt b in
@@ -230,7 +230,7 @@ module _ (r : Row) (c : Counts) (e : Entry) (p : prefixes_fit r c ≡ true) wher
             Sees-as (after_opcode e c) (m_at e (easiest q.0 c) c) _ i (λ bytes. rw (q.1) refl) (m_at_sees (easiest q.0 c) m _ i h x.fits (omega (arith, x.least)) t)
       ]
 
-  pub plain_sees : (v : ℕ) (i : Instr) → has_operand r ≡ false → row_in e 0 ≡ Some r → v < 256 ^ isz r c 192 0 → built r c 192 0 0 v ≡ Some i → Sees (after_opcode e c) (le (isz r c 192 0) v) i
+  pub plain_sees : (v : ℕ) (i : Instr) → has_operand r ≡ false → row_in e 0 ≡ Some r → v < 256 ^ number_size r c 192 0 → built r c 192 0 0 v ≡ Some i → Sees (after_opcode e c) (le (number_size r c 192 0) v) i
   unfolding after_opcode plain_at
   plain_sees v i o h vlt b =
       elim (row_in_cases e 0 r h) [
