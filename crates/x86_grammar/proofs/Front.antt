@@ -1,11 +1,10 @@
 -- Prefixes and opcodes of a spelling are read, and in front of an opcode no more bytes are asked for than
 -- some row with these prefixes has.
-use Rattle.std.proofs.Common.{◌≡◌, ℕ, zero, suc, ◌+◌, ◌-◌, ◌<◌, ◌≤◌, Bool, true, false, cond, not, ltb, eqb, ◌&&◌, ◌||◌, List, [], ◌∷◌, ◌++◌, length, Option, Some, None, inl, inr, ◌⊎◌, refl, lit≤, sym, ap, subst, ◌∙◌, arith, length-append, add-one, add-zero}
+use Rattle.std.proofs.Common.{◌≡◌, ℕ, zero, suc, ◌+◌, ◌-◌, ◌<◌, ◌≤◌, Bool, true, false, cond, ltb, eqb, ◌&&◌, ◌||◌, List, [], ◌∷◌, ◌++◌, length, Option, Some, None, inl, inr, refl, lit≤, sym, ap, subst, ◌∙◌, arith, length-append, add-one, add-zero}
 use Rattle.std.proofs.lemmas.Bool.{eqb-true, false≢true, ltb-false, le-ltb, ne_eqb, ltb-true}
 use Rattle.std.specs.List.{AllByRecursion}
 use Rattle.x86_types.specs.declared.instr.Instr.{Instr}
 use Rattle.x86_types.specs.declared.operand.Reg.{Reg}
-use Rattle.x86_types.specs.declared.operand.Reg.TheVariants as reg
 use Rattle.x86_types.specs.Numbers.{number_of_reg}
 use Rattle.x86_grammar.specs.declared.row.Row.{Row}
 use Rattle.x86_grammar.specs.declared.row.Row.TheVariants as row

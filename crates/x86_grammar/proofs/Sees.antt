@@ -13,14 +13,14 @@ use Rattle.x86_grammar.specs.declared.row.Entry.TheVariants as entry
 use Rattle.x86_grammar.specs.declared.row.Group.{Group}
 use Rattle.x86_grammar.specs.declared.row.Group.TheVariants as group
 use Rattle.x86_grammar.specs.declared.reading.Seen.{Seen}
-use Rattle.x86_grammar.specs.declared.reading.Seen.TheVariants.{Found, Needs, Never}
+use Rattle.x86_grammar.specs.declared.reading.Seen.TheVariants.{Found}
 use Rattle.x86_grammar.specs.Table.{member_of, row_in, shift_row, first_row, unit_row, step_row}
 use Rattle.x86_grammar.specs.Rows.{has_operand}
 use Rattle.x86_grammar.specs.Attributes.{imm_size}
 use Rattle.x86_grammar.specs.Meaning.{build}
 use Rattle.x86_grammar.specs.Operand.{le, from_le, rm_of, has_sib, disp_size, mod_size, sibs, low_of}
 use Rattle.x86_grammar.specs.Spells.{half_in, prefixes_fit}
-use Rattle.x86_grammar.specs.Reading.{Cut, found, numbers, sib_at, after_m, of_row, m_at, plain_at, after_opcode, least_disp, easiest}
+use Rattle.x86_grammar.specs.Reading.{Cut, numbers, sib_at, after_m, of_row, m_at, plain_at, after_opcode, least_disp, easiest}
 use Rattle.x86_grammar.proofs.LittleEndian.{length-le, from_le-le}
 use Rattle.x86_grammar.proofs.Map.{some_row, none_row, members_have}
 

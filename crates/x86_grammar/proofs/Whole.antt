@@ -10,7 +10,6 @@ use Rattle.x86_types.specs.declared.operand.Rm.TheVariants as rm
 use Rattle.x86_types.specs.declared.operand.Reg.TheVariants as reg
 use Rattle.x86_grammar.specs.declared.row.Form.{Form}
 use Rattle.x86_grammar.specs.declared.row.Counts.{Counts}
-use Rattle.x86_grammar.specs.declared.reading.Seen.{Seen}
 use Rattle.x86_grammar.specs.declared.reading.Seen.TheVariants.{Found}
 use Rattle.x86_grammar.specs.Table.{entry_of, row_at}
 use Rattle.x86_grammar.specs.Rows.{key_of, has_operand}
