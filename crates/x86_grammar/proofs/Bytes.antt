@@ -68,7 +68,7 @@ operand_are : (b : Bool) (o : Operand) → (b ≡ true → IsOperand o) → AreB
 operand_are false o h = tt
 operand_are true o h = let i = h refl in (i.m, bytes_append (sibs (has_sib o.m) o.sib) (le (disp_size o.m o.sib) o.disp) (sib_bytes (has_sib o.m) o.sib i.sib) (le_bytes (disp_size o.m o.sib) o.disp))
 
-opcode_some : (k : ℕ) → 1 ≤ length (opcode_bytes k)
+pub opcode_some : (k : ℕ) → 1 ≤ length (opcode_bytes k)
 opcode_some k = cond_both (ltb k 256) (k ∷ []) (15 ∷ (k - 256) ∷ []) (λ x. 1 ≤ length x) (λ e. lit≤ tt) (λ e. lit≤ tt)
 
 module _ (i : Instr) (x : Spelling) (ok : IsSpelling x i) where

@@ -2,10 +2,11 @@ pub mod Again
 pub mod Among
 pub mod Bytes
 pub mod Fit
+pub mod Front
 pub mod LittleEndian
 pub mod Map
 pub mod Means
 pub mod Operands
-pub mod Sound
+pub mod Sees
 pub mod Whole
 pub mod Worked
