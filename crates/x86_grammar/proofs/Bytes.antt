@@ -13,9 +13,9 @@ use Rattle.x86_grammar.specs.Rows.{key_of, has_operand}
 use Rattle.x86_grammar.specs.Attributes.{imm_size}
 use Rattle.x86_grammar.specs.Forms.{forms}
 use Rattle.x86_grammar.specs.Operand.{Operand, IsOperand, le, sibs, has_sib, disp_size}
+use Rattle.x86_grammar.specs.Reading.{AreBytes}
 use Rattle.x86_grammar.specs.Spells.{is_prefix, opcode_bytes, operand_part, bytes_of, Spelling, IsSpelling, Spells}
 use Rattle.x86_grammar.proofs.Again.{row_again}
-use Rattle.x86_grammar.proofs.LittleEndian.{AreBytes}
 use Rattle.x86_grammar.proofs.Map.{or_cases, nothing_there}
 use Rattle.x86_grammar.proofs.Means.{Means, mean_of, forms_mean}
 

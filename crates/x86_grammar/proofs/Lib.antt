@@ -7,5 +7,8 @@ pub mod Map
 pub mod Means
 pub mod Operands
 pub mod Sound
+pub mod Stages
+pub mod Tells
+pub mod Wanted
 pub mod Whole
 pub mod Worked
