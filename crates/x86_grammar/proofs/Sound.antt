@@ -1,6 +1,6 @@
 -- What the reader finds is spelled, and what it asks for can be had.
 use Rattle.std.proofs.Common.{◌≡◌, ℕ, ◌+◌, ◌/◌, ◌%◌, ◌<◌, ◌≤◌, Bool, true, false, not, ltb, eqb, ◌&&◌, ◌||◌, List, [], ◌∷◌, ◌++◌, length, Option, Some, None, inl, inr, refl, sym, ap, subst, ◌∙◌, arith}
-use Rattle.std.proofs.lemmas.Bool.{false≢true, eqb-true}
+use Rattle.std.proofs.lemmas.Bool.{false≢true, eqb-true, cases_Bool}
 use Rattle.std.specs.Prelude.{IfSome}
 use Rattle.x86_types.specs.declared.instr.Instr.{Instr}
 use Rattle.x86_types.specs.declared.operand.Rm.{Rm}
@@ -10,14 +10,14 @@ use Rattle.x86_grammar.specs.declared.row.Counts.{Counts}
 use Rattle.x86_grammar.specs.declared.reading.Seen.TheVariants.{Found, Needs}
 use Rattle.x86_grammar.specs.Attributes.{can_half, imm_size, rep_fits, any_halves, any_segments, can_hint}
 use Rattle.x86_grammar.specs.Operand.{le, rm_of}
-use Rattle.x86_grammar.specs.Reading.{AreBytes, Gave, Wants, needs, least_opcode, least_escaped, after_opcode, after_escape, at_opcode, read_from, read}
+use Rattle.x86_grammar.specs.Reading.{AreBytes, Gave, Wants, needs, after_opcode, after_escape, at_opcode, read_from, read}
 use Rattle.x86_grammar.specs.Rows.{key_of, has_operand}
 use Rattle.x86_grammar.specs.Spells.{is_prefix, more, no_counts, counts_of, prefixes_fit, half_in, opcode_bytes, operand_part, Spelling, Spells}
 use Rattle.x86_grammar.specs.Table.{entry_of}
 use Rattle.x86_grammar.proofs.Among.{Parts, form_of, shown, shown_if, in_forms}
 use Rattle.x86_grammar.proofs.Map.{row_right}
 use Rattle.x86_grammar.proofs.Stages.{Spelled, part, opcode_tells}
-use Rattle.x86_grammar.proofs.Tells.{Begins, Lacks, Tells, Tells-cons, Tells-as, bool_cases}
+use Rattle.x86_grammar.proofs.Tells.{Begins, Lacks, Tells, Tells-cons, Tells-as}
 use Rattle.x86_grammar.proofs.Wanted.{Prefixed, Escaped, here, escaped_here, opcode_wants, escaped_wants}
 
 -- ---- the opcode
@@ -37,7 +37,7 @@ escape_tells c = Tells-cons (after_escape c) (λ b. after_opcode (entry_of (256 
 at_tells : (c : Counts) (b : ℕ) → b < 256 → Tells (at_opcode c b) (λ t i. Prefixed c (b ∷ t) i)
 unfolding at_opcode
 at_tells c b lt =
-    elim (bool_cases (eqb b 15)) [
+    elim (cases_Bool (eqb b 15)) [
       | inl e ↦ Tells-as _ (after_escape c) _ (Escaped c) (λ bytes. rw e refl) (λ t i x. subst (λ (k : ℕ). Prefixed c (k ∷ t) i) (sym (eqb-true b 15 e)) x) (escape_tells c)
       | inr f ↦ Tells-as _ (after_opcode (entry_of b) c) _ (Spelled (entry_of b) c) (λ bytes. rw f refl) (λ t i x. here c b t i lt x) (opcode_tells (entry_of b) c)
     ]
@@ -51,7 +51,7 @@ from_found : (bytes : List ℕ) (c : Counts) (i : Instr) (left : ℕ) → AreByt
 unfolding read_from
 from_found [] c i left h e = absurd (needs_no _ i left e)
 from_found (b ∷ bytes) c i left h e =
-    elim (bool_cases (is_prefix b)) [
+    elim (cases_Bool (is_prefix b)) [
       | inl p ↦ let g = from_found bytes (more c b) i left h.1 (rw p at e) in
           record { text = b ∷ g.text; rest = g.rest; parts = ap (λ (y : List ℕ). b ∷ y) g.parts; len = g.len; right = more_prefixed c b g.text i p g.right }
       | inr f ↦ let g = (at_tells c b h.0).found bytes i left h.1 (rw f at e) in
@@ -62,7 +62,7 @@ from_needs : (bytes : List ℕ) (c : Counts) (k : ℕ) → AreBytes bytes → re
 unfolding read_from
 from_needs [] c k h e = opcode_wants c.halves c.segments c.hints c.repeats k (needs_some _ k e)
 from_needs (b ∷ bytes) c k h e =
-    elim (bool_cases (is_prefix b)) [
+    elim (cases_Bool (is_prefix b)) [
       | inl p ↦ let g = from_needs bytes (more c b) k h.1 (rw p at e) in
           record { more = g.more; instr = g.instr; len = g.len; some = g.some; right = more_prefixed c b (bytes ++ g.more) g.instr p g.right }
       | inr f ↦ let g = (at_tells c b h.0).needs bytes k h.1 (rw f at e) in

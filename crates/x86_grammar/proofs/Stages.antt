@@ -1,6 +1,6 @@
 -- The stages of the reader behind the opcode: ModRM, SIB, and the rows of an entry.
-use Rattle.std.proofs.Common.{◌≡◌, ℕ, zero, suc, ◌+◌, ◌/◌, ◌%◌, ◌^◌, ◌<◌, ◌≤◌, Bool, true, false, cond, ltb, eqb, ◌&&◌, List, [], ◌∷◌, ◌++◌, length, Option, Some, None, inl, inr, ◌⊎◌, lit<, refl, sym, ap, subst, ◌∙◌, append_assoc, arith, length-append}
-use Rattle.std.proofs.lemmas.Bool.{ltb-false, false≢true}
+use Rattle.std.proofs.Common.{◌≡◌, ℕ, zero, suc, ◌+◌, ◌/◌, ◌%◌, ◌^◌, ◌<◌, ◌≤◌, Bool, true, false, cond, ltb, eqb, List, [], ◌∷◌, ◌++◌, Option, Some, None, inl, inr, lit<, refl, sym, ap, subst, ◌∙◌, append_assoc, arith, length-append}
+use Rattle.std.proofs.lemmas.Bool.{ltb-false, false≢true, cases_Bool}
 use Rattle.x86_types.specs.declared.instr.Instr.{Instr}
 use Rattle.x86_grammar.specs.declared.row.Row.{Row}
 use Rattle.x86_grammar.specs.declared.row.Row.TheVariants as row
@@ -9,8 +9,7 @@ use Rattle.x86_grammar.specs.declared.row.Entry.{Entry}
 use Rattle.x86_grammar.specs.declared.row.Entry.TheVariants as entry
 use Rattle.x86_grammar.specs.declared.row.Group.{Group}
 use Rattle.x86_grammar.specs.declared.row.Group.TheVariants as group
-use Rattle.x86_grammar.specs.declared.reading.Seen.{Seen}
-use Rattle.x86_grammar.specs.declared.reading.Seen.TheVariants.{Found, Needs, Never}
+use Rattle.x86_grammar.specs.declared.reading.Seen.TheVariants.{Found, Needs}
 use Rattle.x86_grammar.specs.Operand.{le, has_sib, disp_size, mod_size, sibs, low_of}
 use Rattle.x86_grammar.specs.Reading.{numbers, sib_at, after_m, of_row, m_at, plain_at, after_opcode, least_disp, easiest}
 use Rattle.x86_grammar.specs.Rows.{has_operand}
@@ -18,7 +17,7 @@ use Rattle.x86_grammar.specs.Spells.{half_in, prefixes_fit}
 use Rattle.x86_grammar.specs.Table.{row_in}
 use Rattle.x86_grammar.proofs.LittleEndian.{length-le, pos256}
 use Rattle.x86_grammar.proofs.Map.{and_left, some_row, members_have}
-use Rattle.x86_grammar.proofs.Tells.{Lacks, Tells, Tells-cons, Tells-as, Tells-never, Ends, number_size, built, free, takes, builds, numbers_tells, plain_tells, bool_cases, cases_of, needs_is, needs_not_found, never_found, never_needs}
+use Rattle.x86_grammar.proofs.Tells.{Lacks, Tells, Tells-cons, Tells-as, Tells-never, Ends, number_size, built, free, takes, builds, numbers_tells, plain_tells, cases_of, needs_is, needs_not_found, never_found, never_needs}
 
 -- ---- ModRM and SIB
 
@@ -46,7 +45,7 @@ mod_high (suc (suc (suc n))) five h = refl
 
 low_mod : (m s : ℕ) → 0 < disp_size m s → ltb m 192 ≡ true
 low_mod m s h =
-    elim (bool_cases (ltb m 192)) [
+    elim (cases_Bool (ltb m 192)) [
       | inl e ↦ e
       | inr e ↦ let high = ltb-false m 192 e in let none = mod_high (m / 64) (eqb (low_of m s) 5) (omega arith) in absurd (omega (arith, none))
     ]
@@ -88,7 +87,7 @@ module _ (r : Row) (c : Counts) (m : ℕ) (fr : free r ≡ true) where
   pub after_m_tells : Tells (after_m r c m) (λ t i. (prefixes_fit r c ≡ true) × Behind r c m t i)
   unfolding after_m
   after_m_tells =
-      elim (bool_cases (prefixes_fit r c)) [
+      elim (cases_Bool (prefixes_fit r c)) [
         | inr f ↦ Tells-never _ _ (λ bytes. rw f refl)
         | inl p ↦ Tells-as _ _ _ (Behind r c m) (λ bytes. rw p refl) (λ t i x. (p, x)) (behind_cases (has_sib m) refl)
       ]
@@ -227,7 +226,7 @@ plain_from r c t i o p x = record {
 plain_at_tells : (r : Row) (c : Counts) → has_operand r ≡ false → Tells (plain_at r c) (Spelled (entry.One r) c)
 unfolding plain_at
 plain_at_tells r c o =
-    elim (bool_cases (prefixes_fit r c)) [
+    elim (cases_Bool (prefixes_fit r c)) [
       | inr f ↦ Tells-never _ _ (λ bytes. rw f refl)
       | inl p ↦ Tells-as _ (numbers r c 192 0 0) _ (Ends r c 192 0 0) (λ bytes. rw p refl) (λ t i x. plain_from r c t i o p x) (plain_tells r c o)
     ]
@@ -257,7 +256,7 @@ unfolding after_opcode
 opcode_tells entry.Nothing c = Tells-never _ _ (λ bytes. refl)
 opcode_tells (entry.By g) c = Tells-as _ (m_at (entry.By g) (easiest g c) c) _ (Spelled (entry.By g) c) (λ bytes. refl) (λ t i x. x) (m_at_tells (entry.By g) c (λ n r h. members_have g n r h) (easiest g c) (bare_easiest g c))
 opcode_tells (entry.One r) c =
-    elim (bool_cases (has_operand r)) [
+    elim (cases_Bool (has_operand r)) [
       | inl o ↦ Tells-as _ (m_at (entry.One r) r c) _ (Spelled (entry.One r) c) (λ bytes. rw o refl) (λ t i x. x) (m_at_tells (entry.One r) c (one_ops r o) r (bare_at (entry.One r) r refl))
       | inr o ↦ Tells-as _ (plain_at r c) _ (Spelled (entry.One r) c) (λ bytes. rw o refl) (λ t i x. x) (plain_at_tells r c o)
     ]

@@ -1,8 +1,8 @@
 -- How a reader tells of texts: what it finds is one of them at the front, and with as many bytes more as it
 -- asks for there is one. And so for the numbers at the end.
-use Rattle.std.proofs.Common.{◌≡◌, ℕ, zero, suc, ◌+◌, ◌-◌, ◌/◌, ◌%◌, ◌^◌, ◌<◌, ◌≤◌, Bool, true, false, cond, ltb, eqb, ◌&&◌, List, [], ◌∷◌, ◌++◌, length, take, drop, Option, Some, None, inl, inr, ◌⊎◌, lit<, refl, sym, ap, subst, ◌∙◌, append_assoc, arith, length-append, length-drop}
-use Rattle.std.proofs.lemmas.Bool.{le-ltb, ltb-true, ltb-false, false≢true}
-use Rattle.std.proofs.lemmas.List.{take-append-drop, append-nil, nil_from_length}
+use Rattle.std.proofs.Common.{◌≡◌, ℕ, zero, suc, ◌+◌, ◌/◌, ◌%◌, ◌^◌, ◌<◌, ◌≤◌, Bool, true, false, cond, ltb, eqb, List, [], ◌∷◌, ◌++◌, length, replicate, drop, Option, Some, None, inl, inr, ◌⊎◌, lit<, refl, sym, ap, ◌∙◌, append_assoc, arith, length-append, length-drop}
+use Rattle.std.proofs.lemmas.Bool.{ltb-true, ltb-false, false≢true}
+use Rattle.std.proofs.lemmas.List.{take-append-drop, append-nil, nil_from_length, length-replicate}
 use Rattle.x86_types.specs.declared.instr.Instr.{Instr}
 use Rattle.x86_types.specs.declared.instr.Instr.TheVariants as instr
 use Rattle.x86_types.specs.declared.operand.Address.{Address}
@@ -20,7 +20,7 @@ use Rattle.x86_grammar.specs.Operand.{le, from_le, rm_of, address}
 use Rattle.x86_grammar.specs.Reading.{AreBytes, found, numbers}
 use Rattle.x86_grammar.specs.Rows.{has_operand}
 use Rattle.x86_grammar.specs.Spells.{half_in}
-use Rattle.x86_grammar.proofs.LittleEndian.{from_le-below, le-from_le}
+use Rattle.x86_grammar.proofs.LittleEndian.{bytes_drop, bytes_append, from_le-below, le-from_le}
 
 abbrev pub Texts : Type 1
 Texts = List ℕ → Instr → Type 0
@@ -46,10 +46,6 @@ pub record Tells (f : List ℕ → Seen) (P : Texts) : Type 0 where
   pub needs : (bytes : List ℕ) (k : ℕ) → AreBytes bytes → f bytes ≡ Needs k → Lacks P bytes k
 
 -- ---- answers
-
-pub bool_cases : (b : Bool) → (b ≡ true) ⊎ (b ≡ false)
-bool_cases true = inl refl
-bool_cases false = inr refl
 
 pub cases_of : (b : Bool) (x y z : Seen) → cond b x y ≡ z → ((b ≡ true) × (x ≡ z)) ⊎ ((b ≡ false) × (y ≡ z))
 cases_of true x y z e = inl (refl, e)
@@ -103,29 +99,14 @@ Tells-as f g P Q e on s = record {
 pub Tells-never : (f : List ℕ → Seen) (P : Texts) → ((bytes : List ℕ) → f bytes ≡ Never) → Tells f P
 Tells-never f P e = record { found = λ bytes i left h q. absurd (never_found i left (sym (e bytes) ∙ q)); needs = λ bytes k h q. absurd (never_needs k (sym (e bytes) ∙ q)) }
 
--- ---- lists of bytes
-
-bytes_drop : (n : ℕ) (bytes : List ℕ) → AreBytes bytes → AreBytes (drop n bytes)
-bytes_drop zero bytes h = h
-bytes_drop (suc n) [] h = tt
-bytes_drop (suc n) (b ∷ bytes) h = bytes_drop n bytes h.1
-
-bytes_append : (a b : List ℕ) → AreBytes a → AreBytes b → AreBytes (a ++ b)
-bytes_append [] b p q = q
-bytes_append (x ∷ a) b p q = (p.0, bytes_append a b p.1 q)
-
 -- bytes that make up what is missing
-zeros : ℕ → List ℕ
-zeros zero = []
-zeros (suc n) = 0 ∷ zeros n
+abbrev zeros : ℕ → List ℕ
+zeros n = replicate n 0
 
 length-zeros : (n : ℕ) → length (zeros n) ≡ n
-unfolding zeros
-length-zeros zero = refl
-length-zeros (suc n) = ap suc (length-zeros n)
+length-zeros n = length-replicate n 0
 
 bytes_zeros : (n : ℕ) → AreBytes (zeros n)
-unfolding zeros
 bytes_zeros zero = tt
 bytes_zeros (suc n) = (lit< tt, bytes_zeros n)
 

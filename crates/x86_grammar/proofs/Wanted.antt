@@ -1,16 +1,15 @@
 -- Some text for each place at which a list may end: after any prefixes, and behind 0F.
-use Rattle.std.proofs.Common.{◌≡◌, ℕ, zero, suc, ◌+◌, ◌-◌, ◌<◌, Bool, true, false, ltb, eqb, ◌&&◌, ◌||◌, List, [], ◌∷◌, ◌++◌, length, Option, Some, None, lit<, refl, ap, subst, arith, length-append}
+use Rattle.std.proofs.Common.{◌≡◌, ℕ, zero, suc, ◌+◌, ◌-◌, ◌<◌, Bool, true, false, eqb, ◌&&◌, ◌||◌, List, [], ◌∷◌, ◌++◌, length, Some, lit<, refl, ap, subst, arith, length-append}
 use Rattle.std.proofs.lemmas.Bool.{le-ltb, lt-ltb}
 use Rattle.std.proofs.lemmas.List.{nil_from_length}
+use Rattle.std.proofs.Math.Bool.{or-true}
 use Rattle.std.specs.List.{AllByRecursion}
 use Rattle.x86_types.specs.declared.instr.Instr.{Instr}
 use Rattle.x86_types.specs.declared.instr.Instr.TheVariants as instr
 use Rattle.x86_types.specs.declared.operand.Reg.TheVariants.{Eax}
 use Rattle.x86_types.specs.declared.width.Width.TheVariants.{Two}
-use Rattle.x86_grammar.specs.declared.row.Row.{Row}
 use Rattle.x86_grammar.specs.declared.row.Row.TheVariants as row
 use Rattle.x86_grammar.specs.declared.row.Counts.{Counts}
-use Rattle.x86_grammar.specs.declared.reading.Seen.{Seen}
 use Rattle.x86_grammar.specs.declared.reading.Seen.TheVariants.{Found, Needs}
 use Rattle.x86_grammar.specs.Reading.{least_of, least_escaped_of, numbers, m_at, plain_at, after_opcode}
 use Rattle.x86_grammar.specs.Spells.{prefixes_fit, opcode_bytes, is_prefix, counted}
@@ -68,15 +67,11 @@ module _ (P : Texts) (c : Counts) (key b : ℕ) (on : (t : List ℕ) (i : Instr)
 abbrev counts : ℕ → ℕ → ℕ → ℕ → Counts
 counts h s x p = record { halves = h; segments = s; hints = x; repeats = p }
 
-or_true : (b : Bool) → (b || true) ≡ true
-or_true true = refl
-or_true false = refl
-
 nop_fits : (h : ℕ) → prefixes_fit row.Nop (counts h 0 0 0) ≡ true
-nop_fits h = rw (or_true (eqb h 0 || (eqb h 1 && false))) refl
+nop_fits h = rw (or-true (eqb h 0 || (eqb h 1 && false))) refl
 
 long_fits : (h s : ℕ) → prefixes_fit row.NopLong (counts h s 0 0) ≡ true
-long_fits h s = rw (or_true (eqb h 0 || (eqb h 1 && false)), or_true (eqb s 0)) refl
+long_fits h s = rw (or-true (eqb h 0 || (eqb h 1 && false)), or-true (eqb s 0)) refl
 
 nop_found : (h : ℕ) → after_opcode (entry_of 144) (counts h 0 0 0) [] ≡ Found instr.Nop 0
 unfolding after_opcode plain_at entry_of numbers
@@ -84,7 +79,7 @@ nop_found h = rw (nop_fits h) refl
 
 lea_needs : (h s : ℕ) → (eqb h 0 || (eqb h 1 && true)) ≡ true → after_opcode (entry_of 141) (counts h s 0 0) [] ≡ Needs 1
 unfolding after_opcode m_at entry_of
-lea_needs h s e = rw (e, or_true (eqb s 0)) refl
+lea_needs h s e = rw (e, or-true (eqb s 0)) refl
 
 long_needs : (h s : ℕ) → after_opcode (entry_of 287) (counts h s 0 0) [] ≡ Needs 1
 unfolding after_opcode m_at entry_of
