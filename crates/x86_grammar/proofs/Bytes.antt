@@ -13,15 +13,12 @@ use Rattle.x86_grammar.specs.Rows.{key_of, has_operand}
 use Rattle.x86_grammar.specs.Attributes.{imm_size}
 use Rattle.x86_grammar.specs.Forms.{forms}
 use Rattle.x86_grammar.specs.Operand.{Operand, IsOperand, le, sibs, has_sib, disp_size}
+use Rattle.x86_grammar.specs.Reading.{AreBytes}
 use Rattle.x86_grammar.specs.Spells.{is_prefix, opcode_bytes, operand_part, bytes_of, Spelling, IsSpelling, Spells}
 use Rattle.x86_grammar.proofs.Again.{row_again}
-use Rattle.x86_grammar.proofs.LittleEndian.{AreBytes}
+use Rattle.x86_grammar.proofs.LittleEndian.{bytes_append}
 use Rattle.x86_grammar.proofs.Map.{or_cases, nothing_there}
 use Rattle.x86_grammar.proofs.Means.{Means, mean_of, forms_mean}
-
-bytes_append : (a b : List ℕ) → AreBytes a → AreBytes b → AreBytes (a ++ b)
-bytes_append [] b p q = q
-bytes_append (x ∷ a) b p q = (p.0, bytes_append a b p.1 q)
 
 le_bytes : (k v : ℕ) → AreBytes (le k v)
 le_bytes zero v = tt

@@ -8,5 +8,9 @@ pub mod Map
 pub mod Means
 pub mod Operands
 pub mod Sees
+pub mod Sound
+pub mod Stages
+pub mod Tells
+pub mod Wanted
 pub mod Whole
 pub mod Worked
