@@ -1,0 +1,54 @@
+#!/usr/bin/env python3
+"""Writes stdin and stdout of tools/rows.txt and of the lines below, in the crate's folder."""
+
+import os
+import re
+
+HERE = os.path.dirname(os.path.abspath(__file__))
+CRATE = os.path.dirname(HERE)
+
+# lines that are written in other ways, and lines that are no list of bytes
+LINES = [
+    (b"", "Short"),
+    (b"   ", "Short"),
+    (b"bb07000000", "5 Mov width=4 to=ebx from=0x00000007"),
+    (b"  Bb 07\t000000 \r", "5 Mov width=4 to=ebx from=0x00000007"),
+    (b"9 0", "not bytes"),
+    (b"B8 1", "not bytes"),
+    (b"B", "not bytes"),
+    (b"0x90", "not bytes"),
+    (b"90, 90", "not bytes"),
+    (b"90 90 g0", "not bytes"),
+    (b"90 @0", "not bytes"),
+    (b"90 `0", "not bytes"),
+    (b"90 /0", "not bytes"),
+    (b"90 :0", "not bytes"),
+    (b"\xc3\xa9 90", "not bytes"),
+    (b"\xff\xfe90", "not bytes"),
+    (b"66" * 5000 + b"90", "Outside"),
+    (b"90" + b" 82" * 5000 + b" 8", "not bytes"),
+    # the last line has no end
+    (b"90", "1 Nop"),
+]
+
+
+def rows():
+    with open(os.path.join(HERE, "rows.txt")) as file:
+        for line in file:
+            if line.strip() and not line.startswith("#"):
+                text, expected = line.strip().split(" | ")
+                repeat = lambda m: " ".join([m.group(1)] * int(m.group(2)))
+                yield re.sub(r"([0-9A-F]{2})\*(\d+)", repeat, text).encode(), expected
+
+
+def main():
+    table = list(rows()) + LINES
+    with open(os.path.join(CRATE, "stdin"), "wb") as file:
+        file.write(b"\n".join(text for text, _ in table))
+    with open(os.path.join(CRATE, "stdout"), "w") as file:
+        file.write("".join(expected + "\n" for _, expected in table))
+    print(len(table), "rows")
+
+
+if __name__ == "__main__":
+    main()
