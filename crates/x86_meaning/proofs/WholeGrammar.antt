@@ -1,5 +1,5 @@
 -- What spells an instruction here spells it by the whole grammar.
-use Rattle.std.proofs.Common.{◌≡◌, ℕ, ◌+◌, ◌-◌, ◌/◌, ◌%◌, ◌^◌, ◌<◌, ◌≤◌, ◌==◌, Bool, true, false, cond, ltb, List, [], ◌∷◌, length, refl, sym, ap, ◌∙◌, subst, inl, inr, ⊎_elim, arith}
+use Rattle.std.proofs.Common.{◌≡◌, ℕ, ◌+◌, ◌-◌, ◌/◌, ◌%◌, ◌^◌, ◌<◌, ◌≤◌, ◌==◌, Bool, true, false, cond, ltb, List, [], ◌∷◌, ◌++◌, length, refl, sym, ap, ◌∙◌, subst, inl, inr, ⊎_elim, arith}
 use Rattle.std.proofs.lemmas.Bool.Decides.{nat_tests}
 use Rattle.x86_types.specs.declared.operand.Reg.{Reg}
 use Rattle.x86_types.specs.declared.operand.Reg.TheVariants.{Eax, Ecx, Edx, Ebx, Esp, Ebp, Esi, Edi}
@@ -15,7 +15,6 @@ use Rattle.x86_grammar.specs.Attributes.{imm_size}
 use Rattle.x86_grammar.specs.Forms.{forms, In}
 use Rattle.x86_grammar.specs.Operand.{Operand, le}
 use Rattle.x86_grammar.specs.Spells.{no_counts, prefixes_fit, half_in, Spelling, bytes_of, Spells as SpellsWhole}
-use Rattle.x86_grammar.proofs.Whole.{one_spelling}
 use Rattle.x86_meaning.specs.Spells.{mov_word, word_bytes, sign_extended, Spells}
 use Rattle.x86_meaning.specs.Laws.{IsWholeSpelling, IsOnlySpelling}
 use Rattle.x86_meaning.proofs.Built.{Built, moves, jumps, calls, other, built}
@@ -98,5 +97,6 @@ built_whole bytes i (other stands none) h = absurd (none bytes h)
 pub whole_spelling : IsWholeSpelling
 whole_spelling bytes i = built_whole bytes i (built i)
 
-pub only_spelling : IsOnlySpelling
-only_spelling a b x y i j p q e = one_spelling a b x y i j (whole_spelling a i p) q e
+-- of two spellings by the whole grammar that begin one list both are one
+pub only_spelling : ((a b x y : List ℕ) (i j : Instr) → SpellsWhole a i → SpellsWhole b j → a ++ x ≡ b ++ y → (a ≡ b) × (i ≡ j)) → IsOnlySpelling
+only_spelling one a b x y i j p q e = one a b x y i j (whole_spelling a i p) q e

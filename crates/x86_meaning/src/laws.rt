@@ -4,6 +4,8 @@ ghost use Rattle.x86_meaning.specs.MemoryLaws.{CanApart, CanByKinds, CanInSame, 
 ghost use Rattle.x86_meaning.specs.StateLaws.{CallApart, StartIsForgotten, StepForgets, StepKeepsKinds};
 ghost use Rattle.x86_meaning.specs.Laws.{CodeIsAnyFront, FifteenAreEnough, FrontIsSpelling, IsOnlySpelling, IsWholeSpelling, NoSpellingBeginsAnother, NoneIsNoSpelling, RunsArePaced, RunsGrow, RunsHaveNoGuard, RunsNeverStop, RunsTick, SpellingIsShort};
 
+use x86_grammar::no_spelling_begins_another;
+
 /// Does nothing: its clauses say that the computed front is the relation of spellings, and that a list of bytes has at
 /// most one front that spells an instruction, which it spells by the whole grammar too, and no other
 /// front another.
@@ -16,7 +18,9 @@ pub fn spelling_laws()
     ensures spelling_is_short { SpellingIsShort }
     ensures fifteen_are_enough { FifteenAreEnough }
     ensures code_is_any_front { CodeIsAnyFront }
-{}
+{
+    no_spelling_begins_another();
+}
 
 /// Does nothing: its clauses are the laws of each run, whatever stands at each address and from whatever state.
 pub fn run_laws()

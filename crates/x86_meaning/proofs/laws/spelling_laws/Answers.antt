@@ -24,4 +24,4 @@ pub returns-clause-is_whole_spelling : goal.returns-clause-is_whole_spelling
 returns-clause-is_whole_spelling c = whole_spelling
 
 pub returns-clause-is_only_spelling : goal.returns-clause-is_only_spelling
-returns-clause-is_only_spelling c = only_spelling
+returns-clause-is_only_spelling c = only_spelling c.no_spelling_begins_another.ensures.one
