@@ -1,0 +1,5 @@
+pub mod HeaderFields
+pub mod Tables
+pub mod SegmentTests
+pub mod Spans
+pub mod SegmentBytes

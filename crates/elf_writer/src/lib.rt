@@ -1,0 +1,8 @@
+//! Writing an image as an executable file (System V gABI, "ELF Header", "Program Header").
+#![tactic(auto)]
+
+mod bytes;
+mod header;
+mod writer;
+
+pub use writer::write_image;
