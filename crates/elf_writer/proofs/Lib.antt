@@ -3,3 +3,5 @@ pub mod Tables
 pub mod SegmentTests
 pub mod Spans
 pub mod SegmentBytes
+pub mod Accepted
+pub mod Pushed
