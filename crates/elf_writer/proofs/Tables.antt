@@ -78,8 +78,7 @@ headers_fit offset (s ∷ ss) each h =
     let place = each.0 in
     let long : length (s.bytes ++ data_of ss) ≡ length s.bytes + length (data_of ss) = length-append s.bytes (data_of ss) in
     let to = place.to in
-    let perm = place.perm in
-    (
+    let perm = place.perm in (
       record { kind = omega arith; offset = omega arith; address = omega arith; file_size = omega arith; memory_size = omega arith; flags = omega arith },
-      headers_fit (offset + length s.bytes) ss each.1 (omega (arith, long))
+      headers_fit (offset + length s.bytes) ss each.1 (omega (arith, long)),
     )

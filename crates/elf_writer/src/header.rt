@@ -11,11 +11,7 @@ const IDENT: [u8; 16] = [0x7F, 0x45, 0x4C, 0x46, 1, 1, 1, 0, 0, 0, 0, 0, 0, 0, 0
 
 /// The header of an executable with so many program headers, which stand right after it.
 #[tactic(auto, unfolding(crate::specs::Written::elf_header))]
-pub(crate) fn push_elf_header(
-    out: &mut Vec<u8>,
-    entry: u32,
-    count: u16,
-) -> Result<(), AllocError>
+pub(crate) fn push_elf_header(out: &mut Vec<u8>, entry: u32, count: u16) -> Result<(), AllocError>
     ensures { OnOk result (out.new.items ≡ out.old.items ++ elf_header entry count) }
 {
     out.extend_from_slice(&IDENT)?;

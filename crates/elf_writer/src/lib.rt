@@ -3,6 +3,8 @@
 
 mod bytes;
 mod header;
+#[cfg(test)]
+mod tests;
 mod writer;
 
 pub use writer::write_image;
