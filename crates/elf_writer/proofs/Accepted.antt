@@ -1,19 +1,18 @@
 -- The written file is accepted, and its image is the one that was written.
-use Rattle.std.proofs.Common.{◌≡◌, ℕ, ◌+◌, ◌-◌, ◌*◌, ◌/◌, ◌%◌, ◌<◌, ◌≤◌, Bool, true, false, not, cond, ltb, List, [], ◌∷◌, ◌++◌, length, map, filter, drop, Option, Some, None, Ok, refl, ap, sym, ◌∙◌, append_assoc, arith, length-append, subst}
-use Rattle.std.specs.List.{list_any, AllByRecursion, sum_by}
+use Rattle.std.proofs.Common.{◌≡◌, ℕ, ◌+◌, ◌-◌, ◌*◌, ◌%◌, ◌<◌, ◌≤◌, Bool, false, not, cond, ltb, List, ◌∷◌, ◌++◌, length, map, filter, drop, Option, Some, None, Ok, refl, ap, sym, ◌∙◌, append_assoc, arith, length-append, subst}
+use Rattle.std.specs.List.{list_any, sum_by}
 use Rattle.std.proofs.lemmas.List.{length-replicate, drop_at}
 use Rattle.std.proofs.lemmas.Bool.{le-ltb, not_from_true}
 use Rattle.elf_image.specs.declared.header.ProgramHeader.{ProgramHeader}
 use Rattle.elf_image.specs.declared.image.Segment.{Segment}
-use Rattle.elf_image.specs.declared.refusal.Refusal.{Refusal}
 use Rattle.elf_image.specs.declared.refusal.Refusal.TheVariants.{Dynamic}
 use Rattle.elf_image.specs.declared.refusal.Room.TheVariants.{Any}
-use Rattle.elf_image.specs.Fields.{entry, table_offset, header_count, headers_from, headers_of}
+use Rattle.elf_image.specs.Fields.{entry, header_count, headers_from, headers_of}
 use Rattle.elf_image.specs.Pages.{is_segment}
 use Rattle.elf_image.specs.Rows.{zeros}
 use Rattle.elf_image.specs.Refusals.{first, room_end, room_span, room_size, is_dynamic, past_file, is_too_small, is_misaligned, is_forbidden, is_out_of_room, any_shares_page, has_address, can_run, code_span, pages_size, segment_tests, segments_of, refusal_of}
 use Rattle.elf_image.specs.Image.{segment_of, image_if, image_of}
-use Rattle.elf_writer.specs.Wanted.{CanBeWritten, HasItsPlace, image_with, run_span}
+use Rattle.elf_writer.specs.Wanted.{CanBeWritten, image_with, run_span}
 use Rattle.elf_writer.specs.Written.{elf_header, headers_for, table_bytes, data_of, table_end, data_start, written}
 use Rattle.elf_writer.proofs.HeaderFields.{HasHeader, length_elf_header, header_read, header_passes}
 use Rattle.elf_writer.proofs.Tables.{length_headers, length_table, headers_read, headers_fit}

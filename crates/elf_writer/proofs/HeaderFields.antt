@@ -1,5 +1,5 @@
 -- The fields of a written header, read again.
-use Rattle.std.proofs.Common.{◌≡◌, ℕ, ◌+◌, ◌*◌, ◌/◌, ◌%◌, ◌<◌, ◌≤◌, ◌==◌, Bool, true, false, not, ltb, List, ◌∷◌, ◌++◌, length, Option, None, refl, ap, ◌∙◌, get_or, arith, length-append}
+use Rattle.std.proofs.Common.{◌≡◌, ℕ, ◌+◌, ◌*◌, ◌/◌, ◌%◌, ◌<◌, ◌≤◌, ◌==◌, Bool, true, false, not, ltb, List, ◌∷◌, ◌++◌, length, None, refl, get_or, arith}
 use Rattle.std.proofs.lemmas.Bool.{le-ltb}
 use Rattle.elf_image.specs.declared.refusal.Refusal.{Refusal}
 use Rattle.elf_image.specs.Fields.{has_magic, file_kind, machine, entry, table_offset, header_size, header_count}

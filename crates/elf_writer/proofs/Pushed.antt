@@ -1,5 +1,5 @@
 -- What is pushed is the written file.
-use Rattle.std.proofs.Common.{◌≡◌, ℕ, ◌+◌, ◌-◌, ◌*◌, ◌/◌, ◌%◌, ◌<◌, ◌≤◌, List, [], ◌++◌, length, sym, ap, ◌∙◌, arith, length-append}
+use Rattle.std.proofs.Common.{◌≡◌, ℕ, ◌+◌, ◌-◌, ◌*◌, ◌%◌, ◌<◌, ◌≤◌, List, [], ◌++◌, length, ap, ◌∙◌, arith, length-append}
 use Rattle.elf_image.specs.declared.image.Segment.{Segment}
 use Rattle.elf_image.specs.Rows.{zeros}
 use Rattle.elf_writer.specs.Written.{elf_header, table_bytes, data_of, table_end, data_start, written}

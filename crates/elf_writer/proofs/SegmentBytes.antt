@@ -1,13 +1,12 @@
 -- The segments of a written file, read again.
-use Rattle.std.proofs.Common.{◌≡◌, ℕ, ◌+◌, ◌-◌, ◌*◌, ◌/◌, ◌%◌, ◌<◌, ◌≤◌, ◌&&◌, Bool, true, false, cond, ltb, List, [], ◌∷◌, ◌++◌, length, map, take, drop, replicate, refl, ap, sym, ◌∙◌, append_assoc, append-nil, arith}
+use Rattle.std.proofs.Common.{◌≡◌, ℕ, ◌+◌, ◌-◌, ◌*◌, ◌%◌, ◌&&◌, Bool, true, false, cond, ltb, List, [], ◌∷◌, ◌++◌, length, map, take, drop, replicate, refl, ap, sym, ◌∙◌, append_assoc, append-nil, arith}
 use Rattle.std.specs.List.{AllByRecursion}
 use Rattle.std.proofs.lemmas.List.{take_at, take_all, drop_at, drop-drop}
-use Rattle.elf_image.specs.declared.header.ProgramHeader.{ProgramHeader}
 use Rattle.elf_image.specs.declared.image.Segment.{Segment}
 use Rattle.elf_image.specs.declared.perm.Perm.{Perm}
-use Rattle.elf_image.specs.Pages.{has, first_page, end_page, file_end_page, window, zeroed_from, page_bytes}
+use Rattle.elf_image.specs.Pages.{has, first_page, file_end_page, window, zeroed_from, page_bytes}
 use Rattle.elf_image.specs.Image.{segment_of}
-use Rattle.elf_writer.specs.Wanted.{HasItsPlace, segment_end}
+use Rattle.elf_writer.specs.Wanted.{HasItsPlace}
 use Rattle.elf_writer.specs.Written.{header_for, headers_for, data_of}
 
 -- the bytes at a place, if there are so many

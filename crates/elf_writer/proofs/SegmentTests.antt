@@ -1,12 +1,12 @@
 -- The headers of segments that have their places pass the tests of a segment.
-use Rattle.std.proofs.Common.{◌≡◌, ℕ, ◌+◌, ◌-◌, ◌*◌, ◌/◌, ◌%◌, ◌<◌, ◌≤◌, ◌==◌, ◌&&◌, ◌||◌, Bool, true, false, cond, not, leb, ltb, List, [], ◌∷◌, ◌++◌, length, filter, refl, ap, sym, ◌∙◌, arith, length-append, ⊎_elim}
+use Rattle.std.proofs.Common.{◌≡◌, ℕ, ◌+◌, ◌/◌, ◌%◌, ◌<◌, ◌≤◌, ◌==◌, ◌&&◌, ◌||◌, Bool, true, false, cond, not, leb, ltb, List, [], ◌∷◌, ◌++◌, length, filter, refl, ap, arith, length-append, ⊎_elim}
 use Rattle.std.specs.List.{list_any, AllByRecursion}
-use Rattle.std.proofs.lemmas.Bool.{le-ltb, lt-ltb, le-leb, ltb-true, leb-true, ne_eqb, eq-eqb, and_parts, and_from, or_cases, or_left, or_right, false≢true}
+use Rattle.std.proofs.lemmas.Bool.{le-ltb, lt-ltb, le-leb, ltb-true, leb-true, ne_eqb, and_parts, or_cases, or_left, or_right, false≢true}
 use Rattle.std.proofs.lemmas.Bool.Decides.{nat_tests}
 use Rattle.elf_image.specs.declared.header.ProgramHeader.{ProgramHeader}
 use Rattle.elf_image.specs.declared.image.Segment.{Segment}
 use Rattle.elf_image.specs.declared.refusal.Room.TheVariants.{Any}
-use Rattle.elf_image.specs.Pages.{is_segment, first_page, end_page}
+use Rattle.elf_image.specs.Pages.{is_segment}
 use Rattle.elf_image.specs.Refusals.{room_end, is_dynamic, past_file, is_too_small, is_misaligned, is_forbidden, is_out_of_room, shares_page, any_shares_page, can_run, has_address}
 use Rattle.elf_image.specs.Image.{holds}
 use Rattle.elf_writer.specs.Wanted.{HasItsPlace, segment_end, meets, NoneMeet, runs, runs_at}

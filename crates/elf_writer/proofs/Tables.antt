@@ -1,11 +1,11 @@
 -- The program headers of a written table, read again.
-use Rattle.std.proofs.Common.{◌≡◌, ℕ, zero, suc, ◌+◌, ◌*◌, ◌/◌, ◌%◌, ◌<◌, ◌≤◌, List, [], ◌∷◌, ◌++◌, length, drop, refl, ap, sym, ◌∙◌, get_or, append_assoc, arith, length-append}
+use Rattle.std.proofs.Common.{◌≡◌, ℕ, suc, ◌+◌, ◌*◌, ◌<◌, List, [], ◌∷◌, ◌++◌, length, drop, refl, ap, sym, ◌∙◌, get_or, append_assoc, arith, length-append}
 use Rattle.std.specs.List.{flat_map, AllByRecursion}
 use Rattle.std.proofs.lemmas.List.{get_or-drop, drop-drop, drop_at}
 use Rattle.elf_image.specs.declared.header.ProgramHeader.{ProgramHeader}
 use Rattle.elf_image.specs.declared.image.Segment.{Segment}
 use Rattle.elf_image.specs.Fields.{word_at, header_at, headers_from}
-use Rattle.elf_writer.specs.Wanted.{HasItsPlace, segment_end}
+use Rattle.elf_writer.specs.Wanted.{HasItsPlace}
 use Rattle.elf_writer.specs.Written.{header_bytes, header_for, headers_for, table_bytes, data_of}
 use Rattle.elf_writer.proofs.HeaderFields.{word_again}
 

@@ -3,8 +3,10 @@
 
 mod bytes;
 mod header;
+mod laws;
 #[cfg(test)]
 mod tests;
 mod writer;
 
+pub use laws::{read_images_can_be_written, writer_laws};
 pub use writer::write_image;
