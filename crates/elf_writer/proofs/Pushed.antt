@@ -9,13 +9,6 @@ use Rattle.elf_writer.proofs.Tables.{length_table}
 pub start_is : (count start : ℕ) → table_end count ≤ start → start < table_end count + 4096 → start % 4096 ≡ 0 → start ≡ data_start count
 start_is count start low high even = omega arith
 
-pub length_headers_pushed : (rs : List Segment) (at start : ℕ) (o0 o1 o2 : List ℕ) → o0 ≡ [] → o1 ≡ o0 ++ elf_header at (length rs) → o2 ≡ o1 ++ table_bytes start rs → length o2 ≡ table_end (length rs)
-length_headers_pushed rs at start o0 o1 o2 e0 e1 e2 =
-    let front : o1 ≡ elf_header at (length rs) = e1 ∙ ap (λ (o : List ℕ). o ++ elf_header at (length rs)) e0 in
-    let one : length o1 ≡ 52 = ap length front ∙ length_elf_header at (length rs) in
-    let two : length (table_bytes start rs) ≡ 32 * length rs = length_table start rs in
-    ap length e2 ∙ length-append o1 (table_bytes start rs) ∙ omega (arith, one, two)
-
 pub pushed_file : (ss rs : List Segment) (at start : ℕ) (o0 o1 o2 o3 o4 : List ℕ) → rs ≡ ss → start ≡ data_start (length rs) → o0 ≡ [] → o1 ≡ o0 ++ elf_header at (length rs) → o2 ≡ o1 ++ table_bytes start rs
     → o3 ≡ o2 ++ zeros (start - table_end (length rs)) → o4 ≡ o3 ++ data_of rs → o4 ≡ written ss at
 unfolding written

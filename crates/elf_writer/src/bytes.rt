@@ -1,5 +1,5 @@
 // Numbers as bytes, the lowest first.
-ghost use Rattle.std.specs.Prelude.{◌≡◌, ◌<◌, ◌+◌, ◌++◌, ◌^◌, length, OnOk};
+ghost use Rattle.std.specs.Prelude.{◌≡◌, ◌++◌, OnOk};
 ghost use Rattle.std.specs.List.{flat_map};
 ghost use Rattle.elf_image.specs.Rows.{half, word, zeros};
 
@@ -24,10 +24,12 @@ fn push_word(out: &mut Vec<u8>, n: u32) -> Result<(), AllocError>
 
 /// So many bytes that are 0.
 pub(crate) fn push_zeros(out: &mut Vec<u8>, count: usize) -> Result<(), AllocError>
-    requires { length out.old.items + count < 2 ^ 63 }
     ensures { OnOk result (out.new.items ≡ out.old.items ++ zeros count) }
 {
-    out.resize(out.len() + count, 0)
+    for _ in 0..count {
+        out.push(0)?;
+    }
+    Ok(())
 }
 
 /// Numbers of two bytes each.

@@ -3,7 +3,7 @@ use Rattle.elf_image.specs.declared.refusal.Room.TheVariants.{Any}
 use Rattle.elf_image.specs.Image.{image_of}
 use Rattle.elf_writer.specs.Written.{data_of, table_end}
 use Rattle.elf_writer.proofs.Accepted.{data_is_small, written_is_accepted}
-use Rattle.elf_writer.proofs.Pushed.{start_is, length_headers_pushed, pushed_file}
+use Rattle.elf_writer.proofs.Pushed.{start_is, pushed_file}
 use Rattle.elf_writer.proofs.writer.write_image.Goals as goal
 
 pub data_len-requires : goal.data_len-requires
@@ -24,14 +24,6 @@ push_table-requires c =
     let same : length c.as_slice-segments.result.now ≡ length c.args.segments.now = ap length c.as_slice-segments.ensures in
     let len : length (data_of c.as_slice-segments.result.now) ≡ length (data_of c.args.segments.now) = ap (λ ss. length (data_of ss)) c.as_slice-segments.ensures in
     omega (arith, few, small, same, len)
-
-pub push_zeros-requires : goal.push_zeros-requires
-push_zeros-requires c =
-    let few = c.requires.wanted.few in
-    let same : length c.as_slice-segments.result.now ≡ length c.args.segments.now = ap length c.as_slice-segments.ensures in
-    let pushed : length c.push_table.new.out.items ≡ table_end (length c.as_slice-segments.result.now) =
-    length_headers_pushed c.as_slice-segments.result.now c.args.entry c.next_multiple_of-start.result _ _ _ c.in_ok-out.ensures.items c.in_ok-push_elf_header.ensures c.in_ok-push_table.ensures in
-    omega (arith, few, same, pushed)
 
 pub returns-clause-exact : goal.returns-clause-exact
 returns-clause-exact c =
