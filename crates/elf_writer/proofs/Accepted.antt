@@ -59,7 +59,7 @@ length_written ss at =
 pub data_is_small : (ss : List Segment) (at : ℕ) → CanBeWritten ss at → length (data_of ss) ≤ 0x20000000
 data_is_small ss at w =
     let within : length (data_of ss) ≤ sum_by (λ s. s.size) ss = data_within ss w.each in
-    let small = w.small in
+    let small = w.total in
     omega arith
 
 -- ---- the fields
@@ -98,8 +98,8 @@ segments_pass ss at offset n w even long =
     (passes (list_any (is_out_of_room (room_end Any)) hs) _ _ (none_of (is_out_of_room (room_end Any)) not_out_of_room offset ss even w.each)
     (passes (any_shares_page hs) _ _ (none_shares_page offset ss w.each w.apart)
     (passes (not (list_any (has_address at) (filter can_run hs))) _ _ (not_from_true (list_any (has_address at) (filter can_run hs)) (entry_can_run offset at ss w.entered))
-    (passes (ltb (room_span Any) (code_span hs)) _ _ (ap (ltb (room_span Any)) (code_span_is offset ss w.each) ∙ le-ltb (room_span Any) (run_span ss) w.short)
-    (passes (ltb (room_size Any) (pages_size hs)) _ _ (ap (ltb (room_size Any)) (pages_size_is offset ss w.each) ∙ le-ltb (room_size Any) (sum_by (λ s. s.size) ss) w.small) refl))))))))
+    (passes (ltb (room_span Any) (code_span hs)) _ _ (ap (ltb (room_span Any)) (code_span_is offset ss w.each) ∙ le-ltb (room_span Any) (run_span ss) w.span)
+    (passes (ltb (room_size Any) (pages_size hs)) _ _ (ap (ltb (room_size Any)) (pages_size_is offset ss w.each) ∙ le-ltb (room_size Any) (sum_by (λ s. s.size) ss) w.total) refl))))))))
 
 segments_there : (ss : List Segment) (at : ℕ) → CanBeWritten ss at → segments_of (written ss at) ≡ headers_for (data_start (length ss)) ss
 segments_there ss at w = ap (filter is_segment) (headers_there ss at w) ∙ all_segments (data_start (length ss)) ss w.each

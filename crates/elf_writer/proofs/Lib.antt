@@ -7,3 +7,4 @@ pub mod Accepted
 pub mod Pushed
 pub mod ReadSegments
 pub mod ReadImages
+pub mod PlainFile

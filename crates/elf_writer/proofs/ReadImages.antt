@@ -174,8 +174,8 @@ segments_can_be_written file bytes e =
       each = all_have_places file hs (all_sound hs (filter_each is_segment (headers_of file)) p.small p.forbidden p.room);
       apart = none_meet file hs p.apart;
       entered = runs_there file (entry file) hs (not-false (list_any (has_address (entry file)) (filter can_run hs)) p.entered);
-      short = rw (run_span_is file hs) (ltb-false (room_span Any) (code_span hs) p.span);
-      small = rw (sizes_are file hs ∙ sym (ap (λ (n : ℕ). 4096 * n) (sum-map pages hs))) (ltb-false (room_size Any) (pages_size hs) p.size);
+      span = rw (run_span_is file hs) (ltb-false (room_span Any) (code_span hs) p.span);
+      total = rw (sizes_are file hs ∙ sym (ap (λ (n : ℕ). 4096 * n) (sum-map pages hs))) (ltb-false (room_size Any) (pages_size hs) p.size);
     }
 
 pub read_can_be_written : ReadImagesCanBeWritten

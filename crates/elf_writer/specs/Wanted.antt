@@ -49,5 +49,5 @@ pub record CanBeWritten (segments : List Segment) (entry : ℕ) : Type 0 where
   pub each : AllByRecursion HasItsPlace segments
   pub apart : NoneMeet segments
   pub entered : list_any (runs_at entry) segments ≡ true
-  pub short : run_span segments ≤ room_span Any
-  pub small : sum_by (λ s. s.size) segments ≤ room_size Any
+  pub span : run_span segments ≤ room_span Any
+  pub total : sum_by (λ s. s.size) segments ≤ room_size Any

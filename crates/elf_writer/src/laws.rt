@@ -1,9 +1,12 @@
 // What the written file means.
-ghost use Rattle.elf_writer.specs.Laws.{ReadImagesCanBeWritten, WrittenIsAccepted};
+ghost use Rattle.elf_writer.specs.Laws.{LengthOfWritten, PlainIsWritten, ReadImagesCanBeWritten, WrittenIsAccepted};
 
-/// Does nothing: its clause says that the wide room reads an image again from the file that is written for it.
+/// Does nothing: its clauses say that the wide room reads an image again from the file that is written for it, how long
+/// this file is, and what it is for an image of one page of code and one of zeros.
 pub fn writer_laws()
     ensures accepted { WrittenIsAccepted }
+    ensures size { LengthOfWritten }
+    ensures plain { PlainIsWritten }
 {}
 
 /// Does nothing: its clause says that the image of every file that the wide room accepts can be written.

@@ -1,7 +1,7 @@
 use Rattle.std.proofs.Common.{◌≡◌, length, ap, ◌∙◌, arith}
 use Rattle.elf_image.specs.declared.refusal.Room.TheVariants.{Any}
 use Rattle.elf_image.specs.Image.{image_of}
-use Rattle.elf_writer.specs.Written.{data_of, table_end}
+use Rattle.elf_writer.specs.Written.{data_of}
 use Rattle.elf_writer.proofs.Accepted.{data_is_small, written_is_accepted}
 use Rattle.elf_writer.proofs.Pushed.{start_is, pushed_file}
 use Rattle.elf_writer.proofs.writer.write_image.Goals as goal
