@@ -1,0 +1,10 @@
+pub mod HeaderFields
+pub mod Tables
+pub mod SegmentTests
+pub mod Spans
+pub mod SegmentBytes
+pub mod Accepted
+pub mod Pushed
+pub mod ReadSegments
+pub mod ReadImages
+pub mod PlainFile

@@ -1,0 +1,14 @@
+-- The file that is written for one page of code and one of zeros.
+use Rattle.std.proofs.Common.{ℕ, ◌+◌, List, [], ◌++◌, ap, ◌∙◌, append-nil}
+use Rattle.elf_image.specs.Rows.{file_header, segment_header, zeros}
+use Rattle.elf_writer.specs.Written.{elf_header, header_bytes, written}
+use Rattle.elf_writer.specs.Laws.{PlainIsWritten}
+
+-- with a page of so many bytes
+headers : ℕ → List ℕ
+headers n = file_header 2 ++ segment_header 0x1000 0x08049000 n 4096 5 ++ segment_header (0x1000 + n) 0x0804A000 0 4096 6 ++ zeros 3980
+
+pub plain_is_written : PlainIsWritten
+unfolding written elf_header header_bytes headers
+plain_is_written text page =
+    ap (λ (n : ℕ). headers n ++ (text ++ [])) page ∙ ap (λ (bs : List ℕ). headers 4096 ++ bs) (append-nil text)

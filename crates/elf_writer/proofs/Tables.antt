@@ -1,0 +1,84 @@
+-- The program headers of a written table, read again.
+use Rattle.std.proofs.Common.{◌≡◌, ℕ, suc, ◌+◌, ◌*◌, ◌<◌, List, [], ◌∷◌, ◌++◌, length, drop, refl, ap, sym, ◌∙◌, get_or, append_assoc, arith, length-append}
+use Rattle.std.specs.List.{flat_map, AllByRecursion}
+use Rattle.std.proofs.lemmas.List.{get_or-drop, drop-drop, drop_at}
+use Rattle.elf_image.specs.declared.header.ProgramHeader.{ProgramHeader}
+use Rattle.elf_image.specs.declared.image.Segment.{Segment}
+use Rattle.elf_image.specs.Fields.{word_at, header_at, headers_from}
+use Rattle.elf_writer.specs.Wanted.{HasItsPlace}
+use Rattle.elf_writer.specs.Written.{header_bytes, header_for, headers_for, table_bytes, data_of}
+use Rattle.elf_writer.proofs.HeaderFields.{word_again}
+
+pub length_header : (h : ProgramHeader) → length (header_bytes h) ≡ 32
+unfolding header_bytes
+length_header h = refl
+
+pub length_headers : (offset : ℕ) (ss : List Segment) → length (headers_for offset ss) ≡ length ss
+length_headers offset [] = refl
+length_headers offset (s ∷ ss) = ap suc (length_headers (offset + length s.bytes) ss)
+
+pub length_table : (offset : ℕ) (ss : List Segment) → length (table_bytes offset ss) ≡ 32 * length ss
+length_table offset [] = refl
+length_table offset (s ∷ ss) =
+    let h : ProgramHeader = header_for offset s in
+    let one : length (header_bytes h) ≡ 32 = length_header h in
+    let more : length (table_bytes (offset + length s.bytes) ss) ≡ 32 * length ss = length_table (offset + length s.bytes) ss in
+    length-append (header_bytes h) (table_bytes (offset + length s.bytes) ss) ∙ omega (arith, one, more)
+
+-- a word and a header at a place of a file are the first of what stands from that place on
+word_from : (file : List ℕ) (i j : ℕ) → word_at file (i + j) ≡ word_at (drop i file) j
+word_from file i j =
+    let a : get_or file (i + j) 0 ≡ get_or (drop i file) j 0 = sym (get_or-drop i file j 0) in
+    let b : get_or file (i + j + 1) 0 ≡ get_or (drop i file) (j + 1) 0 = place (j + 1) (i + j + 1) (omega arith) in
+    let c : get_or file (i + j + 2) 0 ≡ get_or (drop i file) (j + 2) 0 = place (j + 2) (i + j + 2) (omega arith) in
+    let d : get_or file (i + j + 3) 0 ≡ get_or (drop i file) (j + 3) 0 = place (j + 3) (i + j + 3) (omega arith) in
+    rw (a, b, c, d) refl
+  where
+    place : (k n : ℕ) → n ≡ i + k → get_or file n 0 ≡ get_or (drop i file) k 0
+    place k n e = ap (λ (m : ℕ). get_or file m 0) e ∙ sym (get_or-drop i file k 0)
+
+abbrev header : ℕ → ℕ → ℕ → ℕ → ℕ → ℕ → ProgramHeader
+header k o a f m g = record { kind = k; offset = o; address = a; file_size = f; memory_size = m; flags = g }
+
+same_header : {k o a f m g k' o' a' f' m' g' : ℕ} → k ≡ k' → o ≡ o' → a ≡ a' → f ≡ f' → m ≡ m' → g ≡ g'
+    → header k o a f m g ≡ header k' o' a' f' m' g'
+same_header p q r s t u = cc
+
+header_from : (file : List ℕ) (i : ℕ) → header_at file i ≡ header_at (drop i file) 0
+header_from file i =
+    let first : word_at file i ≡ word_at (drop i file) 0 = ap (word_at file) (let e : i ≡ i + 0 = omega arith in e) ∙ word_from file i 0 in
+    same_header first (word_from file i 4) (word_from file i 8) (word_from file i 16) (word_from file i 20) (word_from file i 24)
+
+pub record FitsWords (h : ProgramHeader) : Type 0 where
+  pub kind : h.kind < 4294967296
+  pub offset : h.offset < 4294967296
+  pub address : h.address < 4294967296
+  pub file_size : h.file_size < 4294967296
+  pub memory_size : h.memory_size < 4294967296
+  pub flags : h.flags < 4294967296
+
+header_again : (h : ProgramHeader) (rest : List ℕ) → FitsWords h → header_at (header_bytes h ++ rest) 0 ≡ h
+unfolding header_bytes
+header_again h rest f = same_header (word_again h.kind f.kind) (word_again h.offset f.offset) (word_again h.address f.address) (word_again h.file_size f.file_size) (word_again h.memory_size f.memory_size) (word_again h.flags f.flags)
+
+pub headers_read : (file : List ℕ) (i : ℕ) (hs : List ProgramHeader) (rest : List ℕ) → drop i file ≡ flat_map header_bytes hs ++ rest → AllByRecursion FitsWords hs → headers_from file i (length hs) ≡ hs
+unfolding headers_from
+headers_read file i [] rest at fit = refl
+headers_read file i (h ∷ hs) rest at fit =
+    let now : drop i file ≡ header_bytes h ++ (flat_map header_bytes hs ++ rest) = at ∙ append_assoc (header_bytes h) (flat_map header_bytes hs) rest in
+    let this : header_at file i ≡ h = header_from file i ∙ ap (λ (bs : List ℕ). header_at bs 0) now ∙ header_again h (flat_map header_bytes hs ++ rest) fit.0 in
+    let then : drop (i + 32) file ≡ flat_map header_bytes hs ++ rest =
+    sym (drop-drop 32 i file) ∙ ap (drop 32) now ∙ drop_at (header_bytes h) (flat_map header_bytes hs ++ rest) 32 (length_header h) in
+    let more : headers_from file (i + 32) (length hs) ≡ hs = headers_read file (i + 32) hs rest then fit.1 in
+    cc
+
+pub headers_fit : (offset : ℕ) (ss : List Segment) → AllByRecursion HasItsPlace ss → offset + length (data_of ss) < 4294967296 → AllByRecursion FitsWords (headers_for offset ss)
+headers_fit offset [] each h = tt
+headers_fit offset (s ∷ ss) each h =
+    let place = each.0 in
+    let long : length (s.bytes ++ data_of ss) ≡ length s.bytes + length (data_of ss) = length-append s.bytes (data_of ss) in
+    let to = place.to in
+    let perm = place.perm in (
+      record { kind = omega arith; offset = omega arith; address = omega arith; file_size = omega arith; memory_size = omega arith; flags = omega arith },
+      headers_fit (offset + length s.bytes) ss each.1 (omega (arith, long)),
+    )

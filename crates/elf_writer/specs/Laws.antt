@@ -1,0 +1,29 @@
+-- What is written is read again, and what is read can be written.
+use Rattle.std.specs.Prelude.{◌≡◌, ℕ, ◌+◌, ◌<◌, List, [], ◌∷◌, ◌++◌, length, Ok}
+use Rattle.std.specs.List.{AllByRecursion}
+use Rattle.elf_image.specs.declared.image.Segment.{Segment}
+use Rattle.elf_image.specs.declared.image.Image.{Image}
+use Rattle.elf_image.specs.declared.refusal.Room.TheVariants.{Any}
+use Rattle.elf_image.specs.Image.{image_of}
+use Rattle.elf_image.specs.Plain.{room_segment}
+use Rattle.elf_image.specs.Rows.{file_header, segment_header, zeros}
+use Rattle.elf_writer.specs.Wanted.{CanBeWritten, image_with}
+use Rattle.elf_writer.specs.Written.{data_of, data_start, written}
+
+abbrev pub WrittenIsAccepted : Type 0
+WrittenIsAccepted = (segments : List Segment) (entry : ℕ) → CanBeWritten segments entry → image_of (written segments entry) Any ≡ Ok (image_with segments entry)
+
+-- no more than the pages of the headers and the bytes of the segments
+abbrev pub LengthOfWritten : Type 0
+LengthOfWritten = (segments : List Segment) (entry : ℕ) → length (written segments entry) ≡ data_start (length segments) + length (data_of segments)
+
+-- one page of code and one of zeros, written out
+abbrev pub plain_segments : List ℕ → List Segment
+plain_segments text = record { start = 0x08049000; size = 4096; perm = record { 0 = 5 }; bytes = text } ∷ room_segment ∷ []
+
+abbrev pub PlainIsWritten : Type 0
+PlainIsWritten = (text : List ℕ) → length text ≡ 4096 → written (plain_segments text) 0x08049000
+    ≡ file_header 2 ++ segment_header 0x1000 0x08049000 4096 4096 5 ++ segment_header 0x2000 0x0804A000 0 4096 6 ++ zeros 3980 ++ text
+
+abbrev pub ReadImagesCanBeWritten : Type 0
+ReadImagesCanBeWritten = (file : List ℕ) (image : Image) → image_of file Any ≡ Ok image → AllByRecursion (λ b. b < 256) file → CanBeWritten image.segments image.entry

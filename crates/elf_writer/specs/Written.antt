@@ -1,0 +1,46 @@
+-- The written file: its header, the program headers in the order of the segments, and the bytes of these one after the
+-- other, each in whole pages (gABI, "ELF Header", "Program Header").
+use Rattle.std.specs.Prelude.{ℕ, ◌+◌, ◌-◌, ◌*◌, ◌/◌, List, [], ◌∷◌, ◌++◌, length}
+use Rattle.std.specs.List.{flat_map}
+use Rattle.elf_image.specs.declared.header.ProgramHeader.{ProgramHeader}
+use Rattle.elf_image.specs.declared.image.Segment.{Segment}
+use Rattle.elf_image.specs.Rows.{half, word, zeros}
+
+-- 7F 45 4C 46, then ELFCLASS32, ELFDATA2LSB, EV_CURRENT and zeros
+abbrev pub ident : List ℕ
+ident = 0x7F ∷ 0x45 ∷ 0x4C ∷ 0x46 ∷ 1 ∷ 1 ∷ 1 ∷ 0 ∷ 0 ∷ 0 ∷ 0 ∷ 0 ∷ 0 ∷ 0 ∷ 0 ∷ 0 ∷ []
+
+-- ET_EXEC, EM_386, EV_CURRENT, the entry, the program headers at 52, no sections, no flags
+unfoldable pub elf_header : ℕ → ℕ → List ℕ
+elf_header entry count =
+    ident ++ half 2 ++ half 3 ++ word 1 ++ word entry ++ word 52 ++ word 0 ++ word 0 ++ half 52 ++ half 32 ++ half count ++ half 0 ++ half 0 ++ half 0
+
+-- p_type, p_offset, p_vaddr, p_paddr (the same), p_filesz, p_memsz, p_flags, p_align (a page)
+unfoldable pub header_bytes : ProgramHeader → List ℕ
+header_bytes h = word h.kind ++ word h.offset ++ word h.address ++ word h.address ++ word h.file_size ++ word h.memory_size ++ word h.flags ++ word 4096
+
+-- the header of a segment (PT_LOAD) whose bytes stand at an offset
+abbrev pub header_for : ℕ → Segment → ProgramHeader
+header_for offset s = record { kind = 1; offset = offset; address = s.start; file_size = length s.bytes; memory_size = s.size; flags = s.perm.0 }
+
+-- those of segments whose bytes stand one after the other from an offset on
+abbrev pub headers_for : ℕ → List Segment → List ProgramHeader
+headers_for offset [] = []
+headers_for offset (s ∷ ss) = header_for offset s ∷ headers_for (offset + length s.bytes) ss
+
+abbrev pub table_bytes : ℕ → List Segment → List ℕ
+table_bytes offset ss = flat_map header_bytes (headers_for offset ss)
+
+abbrev pub data_of : List Segment → List ℕ
+data_of ss = flat_map (λ s. s.bytes) ss
+
+-- the end of so many program headers, and the first page after it
+abbrev pub table_end : ℕ → ℕ
+table_end count = 52 + 32 * count
+
+abbrev pub data_start : ℕ → ℕ
+data_start count = 4096 * ((table_end count + 4095) / 4096)
+
+unfoldable pub written : List Segment → ℕ → List ℕ
+written ss entry =
+    elf_header entry (length ss) ++ table_bytes (data_start (length ss)) ss ++ zeros (data_start (length ss) - table_end (length ss)) ++ data_of ss

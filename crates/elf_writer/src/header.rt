@@ -1,0 +1,74 @@
+// The file's header and the program headers.
+ghost use Rattle.std.specs.Prelude.{◌≡◌, ◌<◌, ◌+◌, ◌++◌, length, OnOk};
+ghost use Rattle.elf_writer.specs.Written.{elf_header, header_bytes, header_for, table_bytes, data_of};
+
+use crate::bytes::{push_halves, push_words};
+use elf_image::{ProgramHeader, Segment};
+use std::alloc::AllocError;
+
+/// The magic, then 32 bits, lowest byte first, version 1 (gABI, "ELF Identification").
+const IDENT: [u8; 16] = [0x7F, 0x45, 0x4C, 0x46, 1, 1, 1, 0, 0, 0, 0, 0, 0, 0, 0, 0];
+
+/// The header of an executable with so many program headers, which stand right after it.
+#[tactic(auto, unfolding(crate::specs::Written::elf_header))]
+pub(crate) fn push_elf_header(out: &mut Vec<u8>, entry: u32, count: u16) -> Result<(), AllocError>
+    ensures { OnOk result (out.new.items ≡ out.old.items ++ elf_header entry count) }
+{
+    out.extend_from_slice(&IDENT)?;
+    push_halves(out, &[2, 3])?;
+    push_words(out, &[1, entry, 52, 0, 0])?;
+    push_halves(out, &[52, 32, count, 0, 0, 0])
+}
+
+/// The program header of a segment whose bytes stand at an offset.
+fn header_for(offset: u32, segment: &Segment) -> ProgramHeader
+    requires { length segment.now.bytes < 4294967296 }
+    ensures { result ≡ header_for offset segment.now }
+{
+    ProgramHeader {
+        kind: 1,
+        offset,
+        address: segment.start,
+        file_size: segment.bytes.len() as u32,
+        memory_size: segment.size,
+        flags: segment.perm.0,
+    }
+}
+
+/// A program header, of 32 bytes.
+#[tactic(auto, unfolding(crate::specs::Written::header_bytes))]
+fn push_header(out: &mut Vec<u8>, h: ProgramHeader) -> Result<(), AllocError>
+    ensures { OnOk result (out.new.items ≡ out.old.items ++ header_bytes h) }
+{
+    push_words(
+        out,
+        &[
+            h.kind,
+            h.offset,
+            h.address,
+            h.address,
+            h.file_size,
+            h.memory_size,
+            h.flags,
+            4096,
+        ],
+    )
+}
+
+/// The program headers of segments whose bytes stand one after the other from an offset on.
+pub(crate) fn push_table(
+    out: &mut Vec<u8>,
+    start: u32,
+    segments: &[Segment],
+) -> Result<(), AllocError>
+    requires { start + length (data_of segments.now) < 4294967296 }
+    ensures { OnOk result (out.new.items ≡ out.old.items ++ table_bytes start segments.now) }
+{
+    let mut offset = start;
+    for segment in segments {
+        let header = header_for(offset, segment);
+        push_header(out, header)?;
+        offset += header.file_size;
+    }
+    Ok(())
+}

@@ -1,0 +1,15 @@
+// What the written file means.
+ghost use Rattle.elf_writer.specs.Laws.{LengthOfWritten, PlainIsWritten, ReadImagesCanBeWritten, WrittenIsAccepted};
+
+/// Does nothing: its clauses say that the wide room reads an image again from the file that is written for it, how long
+/// this file is, and what it is for an image of one page of code and one of zeros.
+pub fn writer_laws()
+    ensures accepted { WrittenIsAccepted }
+    ensures size { LengthOfWritten }
+    ensures plain { PlainIsWritten }
+{}
+
+/// Does nothing: its clause says that the image of every file that the wide room accepts can be written.
+pub fn read_images_can_be_written()
+    ensures { ReadImagesCanBeWritten }
+{}
