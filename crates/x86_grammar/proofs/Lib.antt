@@ -2,6 +2,7 @@ pub mod Again
 pub mod Among
 pub mod Bytes
 pub mod Fit
+pub mod FormsFit
 pub mod LittleEndian
 pub mod Map
 pub mod Means

@@ -2,15 +2,17 @@
 #![tactic(auto)]
 
 mod fields;
+mod form_laws;
 mod group;
 mod opcode_map;
 mod reading;
 mod row;
 mod spelling;
 
+pub use form_laws::forms_are_right;
 pub use group::member;
 pub use opcode_map::{ENTRIES, entry_at, opcode_map_is_right};
-pub use reading::{Seen, reading_is_right};
+pub use reading::Seen;
 pub use row::{Counts, Entry, Form, Group, Row};
 pub use spelling::{
     has_spelling, no_spelling_begins_another, spelled_fields_fit, spelling_is_short,
