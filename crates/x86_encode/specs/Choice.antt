@@ -1,0 +1,39 @@
+-- The best of several forms, picked one by one.
+use Rattle.std.specs.Prelude.{ℕ, Bool, true, false, ◌&&◌, ◌||◌, nat_lt, ◌==◌, if◌then◌else◌, List, [], ◌∷◌, length, replicate}
+use Rattle.x86_types.specs.declared.instr.Instr.{Instr}
+use Rattle.x86_types.specs.declared.instr.Instr.TheVariants as instr
+use Rattle.x86_types.specs.declared.width.Width.TheVariants.{Four}
+use Rattle.x86_grammar.specs.declared.row.Form.{Form}
+use Rattle.x86_grammar.specs.declared.row.Row.TheVariants as row
+use Rattle.x86_grammar.specs.Forms.{forms}
+use Rattle.x86_grammar.specs.Parts.{plain}
+use Rattle.x86_encode.specs.BestForm.{form_best}
+
+abbrev pub before_by_bytes : List ℕ → List ℕ → Bool
+before_by_bytes [] b = false
+before_by_bytes (x ∷ a) [] = false
+before_by_bytes (x ∷ a) (y ∷ b) = nat_lt x y || (x == y && before_by_bytes a b)
+
+abbrev pub before : List ℕ → List ℕ → Bool
+before a b = nat_lt (length a) (length b) || (length a == length b && before_by_bytes a b)
+
+abbrev pub lesser : List ℕ → List ℕ → List ℕ
+lesser a b = if before b a then b else a
+
+abbrev pub picks : List ℕ → List Form → List ℕ
+picks a [] = a
+picks a (f ∷ fs) = picks (lesser a (form_best f)) fs
+
+-- sixteen bytes, longer than each spelling
+abbrev pub no_text : List ℕ
+no_text = replicate 16 0
+
+-- the forms without the short jumps
+abbrev pub wide_forms : Instr → List Form
+wide_forms (instr.Jmp by) = plain row.JmpNear Four by ∷ []
+wide_forms (instr.Jcc c by) = plain (row.JccNear c) Four by ∷ []
+wide_forms i = forms i
+
+abbrev pub forms_at : Bool → Instr → List Form
+forms_at true i = wide_forms i
+forms_at false i = forms i
