@@ -8,7 +8,7 @@ use Rattle.x86_types.specs.declared.width.Width.TheVariants.{Four}
 use Rattle.x86_grammar.specs.Parts.{signed}
 use Rattle.x86_grammar.specs.Operand.{le, disp_of, address, IsOperand, Operand, operand_bytes}
 use Rattle.x86_encode.specs.BestOperand.{class_of, raw, best_m, best_bytes}
-use Rattle.x86_encode.proofs.Ordering.{ByBytes, NotAfter, not_after_bytes, bytes-true, or_cases, and_left, and_right, ByBytes-refl}
+use Rattle.x86_encode.proofs.Ordering.{ByBytes, NotAfter, not_after_bytes, not_after_true, or_cases, and_left, and_right, ByBytes-refl}
 use Rattle.x86_grammar.specs.Operand.{has_sib, low_of, mod_size, disp_size, base_of, index_of, scale_of, sibs}
 use Rattle.x86_encode.specs.BestOperand.{best_mod, best_size, best_rm, best_sib, wants_sib}
 
@@ -131,7 +131,7 @@ says m s c can h =
       | inr r ↦
           let e = and_left (eqb (length (best_head m s c) + best_size (base_of m s) c) (length (head m s) + disp_size m s)) _ r in
           let f = and_right (eqb (length (best_head m s c) + best_size (base_of m s) c) (length (head m s) + disp_size m s)) (eqb (length (best_head m s c)) (length (head m s)) && not_after_bytes (best_head m s c) (head m s)) r in
-          record { short = inr (eqb-true _ _ e, eqb-true _ _ (and_left (eqb (length (best_head m s c)) (length (head m s))) (not_after_bytes (best_head m s c) (head m s)) f), bytes-true (best_head m s c) (head m s) (and_right (eqb (length (best_head m s c)) (length (head m s))) (not_after_bytes (best_head m s c) (head m s)) f)) }
+          record { short = inr (eqb-true _ _ e, eqb-true _ _ (and_left (eqb (length (best_head m s c)) (length (head m s))) (not_after_bytes (best_head m s c) (head m s)) f), not_after_true (best_head m s c) (head m s) (and_right (eqb (length (best_head m s c)) (length (head m s))) (not_after_bytes (best_head m s c) (head m s)) f)) }
     ]
 
 same_says : (b b' : Option Reg) (i i' : Option Reg) (h h' : Bool) (z z' : ℕ) (m c s : ℕ) → b ≡ b' → i ≡ i' → h ≡ h' → z ≡ z' → Says (sibs (wants_sib b i) (best_sib b i (scale_of i s))) (sibs h s) (64 * best_mod b c + best_rm b i) m (best_size b c) z → Says (sibs (wants_sib b' i') (best_sib b' i' (scale_of i' s))) (sibs h' s) (64 * best_mod b' c + best_rm b' i') m (best_size b' c) z'
@@ -192,8 +192,8 @@ module _ (o : Operand) (ok : IsOperand o) (mem : ltb o.m 192 ≡ true) where
       same_says _ _ _ _ _ _ _ _ m0 cls o.sib (sym b) (sym i) (sym h) (sym z) (says m0 o.sib cls can (class_at m0 o.sib cls all_here (class_small a.disp)))
 
   -- no operand with those fields is spelled better
-  pub best_operand : NotAfter (best_bytes n a) (operand_bytes o)
-  best_operand =
+  pub operand_is_best : NotAfter (best_bytes n a) (operand_bytes o)
+  operand_is_best =
       let l = lifted _ _ (64 * best_mod a.base cls + best_rm a.base a.index) m0 (8 * n) (best_size a.base cls) (disp_size o.m o.sib) (raw (best_size a.base cls) a.disp) o.disp said (λ e. rw e (raw_back (disp_size o.m o.sib) o.disp ok.disp)) in
       let x : (64 * best_mod a.base cls + best_rm a.base a.index) + 8 * n ≡ best_m n a = omega arith in
       let y : m0 + 8 * n ≡ o.m = omega (arith, below) in

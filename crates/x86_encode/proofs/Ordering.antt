@@ -96,13 +96,13 @@ pub and_right : (a b : Bool) → (a && b) ≡ true → b ≡ true
 and_right true b e = e
 and_right false b e = absurd (false≢true e)
 
-pub bytes-true : (a b : List ℕ) → not_after_bytes a b ≡ true → ByBytes a b
-bytes-true [] b h = tt
-bytes-true (x ∷ a) [] h = absurd (false≢true h)
-bytes-true (x ∷ a) (y ∷ b) h =
+pub not_after_true : (a b : List ℕ) → not_after_bytes a b ≡ true → ByBytes a b
+not_after_true [] b h = tt
+not_after_true (x ∷ a) [] h = absurd (false≢true h)
+not_after_true (x ∷ a) (y ∷ b) h =
     elim (or_cases (ltb x y) (eqb x y && not_after_bytes a b) h) [
       | inl l ↦ inl (ltb-true x y l)
-      | inr r ↦ inr (eqb-true x y (and_left (eqb x y) (not_after_bytes a b) r), bytes-true a b (and_right (eqb x y) (not_after_bytes a b) r))
+      | inr r ↦ inr (eqb-true x y (and_left (eqb x y) (not_after_bytes a b) r), not_after_true a b (and_right (eqb x y) (not_after_bytes a b) r))
     ]
 
 bytes_true : (a b : List ℕ) → before_by_bytes a b ≡ true → ByBytes a b
