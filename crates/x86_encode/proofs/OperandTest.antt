@@ -65,7 +65,7 @@ if_can false x h e = absurd (false≢true e)
 signed_back : (b : ℕ) → b < 256 → signed Four b % 256 ≡ b
 signed_back b h = cond_both (ltb b 128) b (b + (256 ^ 4 - 256)) (λ x. x % 256 ≡ b) (λ e. omega arith) (λ e. omega arith)
 
-class_small : (d : ℕ) → class_of d < 3
+pub class_small : (d : ℕ) → class_of d < 3
 class_small d = cond_both (eqb d 0) 0 (cond (eqb (signed Four (d % 256)) d) 1 2) (λ x. x < 3) (λ e. omega arith) (λ e. cond_both (eqb (signed Four (d % 256)) d) 1 2 (λ x. x < 3) (λ f. omega arith) (λ f. omega arith))
 
 -- the class of a displacement of that size
@@ -79,7 +79,7 @@ raw_back zero d h = omega arith
 raw_back (suc zero) d h = signed_back d h
 raw_back (suc (suc n)) d h = refl
 
-length-le : (k v : ℕ) → length (le k v) ≡ k
+pub length-le : (k v : ℕ) → length (le k v) ≡ k
 length-le zero v = refl
 length-le (suc k) v = ap suc (length-le k (v / 256))
 
@@ -111,16 +111,16 @@ lifted h t m k n size wide d e s same =
 
 -- what the operand's fields tell
 module _ (m k s : ℕ) (a : m / 64 ≡ k / 64) (b : m % 8 ≡ k % 8) (c : ltb m 192 ≡ ltb k 192) where
-  sib_same : has_sib m ≡ has_sib k
+  pub sib_same : has_sib m ≡ has_sib k
   sib_same = rw (b, c) refl
 
-  base_same : base_of m s ≡ base_of k s
+  pub base_same : base_of m s ≡ base_of k s
   base_same = rw (a, b, c) refl
 
-  index_same : index_of m s ≡ index_of k s
+  pub index_same : index_of m s ≡ index_of k s
   index_same = rw (b, c) refl
 
-  size_same : disp_size m s ≡ disp_size k s
+  pub size_same : disp_size m s ≡ disp_size k s
   size_same = rw (a, b, c) refl
 
 says : (m s c : ℕ) → can_have (disp_size m s) c ≡ true → better m s c ≡ true → Says (sibs (wants_sib (base_of m s) (index_of m s)) (best_sib (base_of m s) (index_of m s) (scale_of (index_of m s) s))) (sibs (has_sib m) s) (64 * best_mod (base_of m s) c + best_rm (base_of m s) (index_of m s)) m (best_size (base_of m s) c) (disp_size m s)
