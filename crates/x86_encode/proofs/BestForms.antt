@@ -1,20 +1,18 @@
 -- No spelling of a form comes before the form's best.
-use Rattle.std.proofs.Common.{◌≡◌, ℕ, zero, suc, ◌+◌, ◌-◌, ◌*◌, ◌/◌, ◌%◌, ◌^◌, ◌<◌, ◌≤◌, Bool, true, false, cond, not, ltb, leb, eqb, ◌&&◌, ◌||◌, List, [], ◌∷◌, ◌++◌, length, Option, Some, None, refl, sym, ap, subst, ◌∙◌, inl, inr, ◌⊎◌, arith}
-use Rattle.std.proofs.lemmas.Bool.{eqb-true, cases_lt, ltb-true, ltb-false, lt-ltb, le-ltb, false≢true}
+use Rattle.std.proofs.Common.{◌≡◌, ℕ, ◌+◌, ◌*◌, ◌/◌, ◌%◌, ◌<◌, ◌≤◌, Bool, true, false, cond, ltb, eqb, ◌&&◌, List, [], ◌∷◌, Option, Some, None, refl, sym, ap, subst, ◌∙◌, inl, inr, ◌⊎◌, arith}
+use Rattle.std.proofs.lemmas.Bool.{eqb-true, cases_lt, ltb-false}
 use Rattle.std.specs.Prelude.{IfSome}
-use Rattle.std.specs.List.{AllByRecursion}
 use Rattle.x86_types.specs.declared.operand.Reg.{Reg}
 use Rattle.x86_types.specs.declared.operand.Address.{Address}
 use Rattle.x86_types.specs.declared.operand.Rm.{Rm}
 use Rattle.x86_types.specs.declared.operand.Rm.TheVariants as rm
 use Rattle.x86_types.specs.declared.instr.Instr.{Instr}
 use Rattle.x86_types.specs.Numbers.{number_of_reg, reg_of}
-use Rattle.x86_grammar.specs.declared.row.Form.{Form}
 use Rattle.x86_grammar.specs.declared.row.Counts.{Counts}
 use Rattle.x86_grammar.specs.Rows.{key_of, has_operand}
 use Rattle.x86_grammar.specs.Attributes.{can_half, imm_size}
-use Rattle.x86_grammar.specs.Operand.{Operand, IsOperand, operand_bytes, rm_of, has_sib, sibs, mod_size, disp_size, low_of, le, address}
-use Rattle.x86_grammar.specs.Spells.{Shows, Spelling, IsSpelling, bytes_of, opcode_bytes, operand_part, counts_of, no_counts, counted, more, is_prefix, half_in, one_if}
+use Rattle.x86_grammar.specs.Operand.{Operand, IsOperand, operand_bytes, rm_of, le, address}
+use Rattle.x86_grammar.specs.Spells.{Spelling, IsSpelling, bytes_of, opcode_bytes, operand_part, no_counts, counted, one_if}
 use Rattle.x86_encode.specs.BestOperand.{best_bytes}
 use Rattle.x86_encode.specs.BestForm.{best_prefixes, best_operand, best_part, form_best}
 use Rattle.x86_encode.proofs.Ordering.{and_left, NotAfter, NotAfter-refl, NotAfter-both}

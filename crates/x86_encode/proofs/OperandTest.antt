@@ -1,7 +1,7 @@
 -- No operand is spelled better, tested at each ModRM and SIB.
-use Rattle.std.proofs.Common.{◌≡◌, ℕ, zero, suc, ◌+◌, ◌-◌, ◌*◌, ◌/◌, ◌%◌, ◌^◌, ◌<◌, ◌≤◌, Bool, true, false, cond, not, ltb, leb, eqb, ◌&&◌, ◌||◌, List, [], ◌∷◌, ◌++◌, length, Option, Some, None, refl, arith}
+use Rattle.std.proofs.Common.{◌≡◌, ℕ, zero, suc, ◌+◌, ◌-◌, ◌*◌, ◌/◌, ◌%◌, ◌^◌, ◌<◌, Bool, true, false, cond, not, ltb, eqb, ◌&&◌, ◌||◌, List, [], ◌∷◌, ◌++◌, length, Option, refl, arith}
 use Rattle.std.proofs.Common.{subst, sym, ap, ◌∙◌, inl, inr, ◌⊎◌, length-append}
-use Rattle.std.proofs.lemmas.Bool.{agree_below, agree_below_at, cases_lt, cond_both, ltb-true, ltb-false, eqb-true, eqb-false, lt-ltb, eq-eqb, false≢true}
+use Rattle.std.proofs.lemmas.Bool.{agree_below, agree_below_at, cases_lt, cond_both, ltb-true, eqb-true, lt-ltb, eq-eqb, false≢true}
 use Rattle.x86_types.specs.declared.operand.Reg.{Reg}
 use Rattle.x86_types.specs.declared.operand.Address.{Address}
 use Rattle.x86_types.specs.declared.width.Width.TheVariants.{Four}
@@ -9,7 +9,7 @@ use Rattle.x86_grammar.specs.Parts.{signed}
 use Rattle.x86_grammar.specs.Operand.{le, disp_of, address, IsOperand, Operand, operand_bytes}
 use Rattle.x86_encode.specs.BestOperand.{class_of, raw, best_m, best_bytes}
 use Rattle.x86_encode.proofs.Ordering.{ByBytes, NotAfter, not_after_bytes, not_after_true, or_cases, and_left, and_right, ByBytes-refl}
-use Rattle.x86_grammar.specs.Operand.{has_sib, low_of, mod_size, disp_size, base_of, index_of, scale_of, sibs}
+use Rattle.x86_grammar.specs.Operand.{has_sib, disp_size, base_of, index_of, scale_of, sibs}
 use Rattle.x86_encode.specs.BestOperand.{best_mod, best_size, best_rm, best_sib, wants_sib}
 
 -- the classes that a displacement of that size can have

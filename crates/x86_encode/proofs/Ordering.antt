@@ -1,6 +1,6 @@
 -- The order of lists of bytes, and the least of several.
-use Rattle.std.proofs.Common.{◌≡◌, ℕ, zero, suc, ◌+◌, ◌<◌, ◌≤◌, Bool, true, false, cond, ltb, eqb, ◌&&◌, ◌||◌, List, [], ◌∷◌, ◌++◌, length, refl, sym, ap, subst, ◌∙◌, inl, inr, ◌⊎◌, arith, length-append}
-use Rattle.std.proofs.lemmas.Bool.{cases_lt, cond_both, lt-ltb, le-ltb, eq-eqb, ltb-true, ltb-false, eqb-true, false≢true}
+use Rattle.std.proofs.Common.{◌≡◌, ℕ, ◌<◌, ◌≤◌, Bool, true, false, ltb, eqb, ◌&&◌, ◌||◌, List, [], ◌∷◌, ◌++◌, length, refl, sym, subst, ◌∙◌, inl, inr, ◌⊎◌, arith, length-append}
+use Rattle.std.proofs.lemmas.Bool.{cases_lt, cond_both, lt-ltb, le-ltb, eq-eqb, ltb-true, eqb-true, false≢true}
 use Rattle.x86_grammar.specs.declared.row.Form.{Form}
 use Rattle.x86_grammar.specs.Forms.{In}
 use Rattle.x86_encode.specs.Order.{BeforeByBytes, Before}
@@ -45,7 +45,7 @@ ByBytes-both (w ∷ a) [] x y e h k = absurd h
 ByBytes-both (w ∷ a) (z ∷ b) x y e (inl h) k = inl h
 ByBytes-both (w ∷ a) (z ∷ b) x y e (inr h) k = inr (h.0, ByBytes-both a b x y (omega arith) h.1 k)
 
-no_longer : (a b : List ℕ) → NotAfter a b → length a ≤ length b
+pub no_longer : (a b : List ℕ) → NotAfter a b → length a ≤ length b
 no_longer a b (inl h) = omega arith
 no_longer a b (inr h) = let e = h.0 in omega arith
 

@@ -1,5 +1,5 @@
 -- The best operand is an operand, with its middle field, and says the address.
-use Rattle.std.proofs.Common.{◌≡◌, ℕ, zero, suc, ◌+◌, ◌-◌, ◌*◌, ◌/◌, ◌%◌, ◌^◌, ◌<◌, ◌≤◌, Bool, true, false, cond, ltb, eqb, ◌&&◌, ◌||◌, List, [], ◌∷◌, ◌++◌, Option, Some, None, refl, sym, ap, subst, ◌∙◌, inl, inr, lit<, arith}
+use Rattle.std.proofs.Common.{◌≡◌, ℕ, ◌+◌, ◌*◌, ◌/◌, ◌%◌, ◌^◌, ◌<◌, Bool, true, false, cond, ltb, eqb, List, ◌∷◌, ◌++◌, Option, Some, None, refl, sym, ap, subst, ◌∙◌, lit<, arith}
 use Rattle.std.proofs.lemmas.Bool.{cond_both, false≢true, eqb-true, ltb-true, lt-ltb, le-ltb}
 use Rattle.std.specs.Prelude.{IfSome}
 use Rattle.x86_types.specs.declared.operand.Reg.{Reg}

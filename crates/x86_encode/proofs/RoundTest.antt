@@ -1,12 +1,12 @@
 -- The best operand says the address, tested at each base, index, scale and class.
-use Rattle.std.proofs.Common.{◌≡◌, ℕ, zero, suc, ◌+◌, ◌-◌, ◌*◌, ◌/◌, ◌%◌, ◌^◌, ◌<◌, ◌≤◌, Bool, true, false, cond, not, ltb, leb, eqb, ◌&&◌, ◌||◌, List, [], ◌∷◌, ◌++◌, length, Option, Some, None, refl, sym, ap, subst, ◌∙◌, inl, inr, lit<, arith}
-use Rattle.std.proofs.lemmas.Bool.{agree_below, agree_below_at, cond_both, false≢true, eqb-true, ltb-true}
+use Rattle.std.proofs.Common.{◌≡◌, ℕ, zero, suc, ◌+◌, ◌*◌, ◌/◌, ◌%◌, ◌<◌, Bool, true, false, cond, not, ltb, eqb, ◌&&◌, ◌||◌, Option, Some, None, refl, sym, ap, subst, ◌∙◌, inl, inr, lit<, arith}
+use Rattle.std.proofs.lemmas.Bool.{agree_below, agree_below_at, false≢true, eqb-true, ltb-true}
 use Rattle.x86_types.specs.declared.operand.Reg.{Reg}
 use Rattle.x86_types.specs.declared.operand.Reg.TheVariants as reg
 use Rattle.x86_types.specs.Numbers.{reg_of, number_of_reg}
 use Rattle.x86_grammar.specs.Fields.{scale_fits, index_fits}
 use Rattle.x86_grammar.specs.Operand.{has_sib, disp_size, base_of, index_of, scale_of, scale_in}
-use Rattle.x86_encode.specs.BestOperand.{best_mod, best_size, best_rm, best_sib, wants_sib, low}
+use Rattle.x86_encode.specs.BestOperand.{best_mod, best_size, best_rm, best_sib, wants_sib}
 use Rattle.x86_encode.proofs.Ordering.{and_left, and_right, or_cases}
 
 -- 8 for none

@@ -1,7 +1,6 @@
 -- The best of a form spells the instruction, in at most fourteen bytes.
-use Rattle.std.proofs.Common.{◌≡◌, ℕ, zero, suc, ◌+◌, ◌-◌, ◌*◌, ◌%◌, ◌^◌, ◌<◌, ◌≤◌, Bool, true, false, cond, not, ltb, eqb, ◌&&◌, ◌||◌, List, [], ◌∷◌, ◌++◌, length, Option, Some, None, refl, sym, ap, subst, ◌∙◌, lit<, lit≤, arith, length-append}
+use Rattle.std.proofs.Common.{◌≡◌, ℕ, ◌-◌, ◌%◌, ◌≤◌, Bool, true, false, cond, not, ltb, eqb, ◌||◌, List, [], ◌∷◌, ◌++◌, length, Option, Some, None, refl, sym, ap, lit≤, arith, length-append}
 use Rattle.std.proofs.lemmas.Bool.{cond_both}
-use Rattle.std.specs.Prelude.{IfSome}
 use Rattle.std.specs.List.{AllByRecursion}
 use Rattle.x86_types.specs.Numbers.{size_of, reg_of, number_of_reg}
 use Rattle.x86_types.specs.declared.width.Width.{Width}
@@ -19,8 +18,8 @@ use Rattle.x86_grammar.specs.FormLaws.{FormSuits, FormFits}
 use Rattle.x86_grammar.specs.Forms.{In, forms}
 use Rattle.x86_grammar.specs.Parts.{signed}
 use Rattle.x86_grammar.specs.Operand.{Operand, le, sibs}
-use Rattle.x86_grammar.specs.Spells.{is_prefix, counts_of, prefixes_fit, half_in, opcode_bytes, operand_part, bytes_of, Spelling, IsSpelling, Spells}
-use Rattle.x86_encode.specs.BestOperand.{best_bytes, best_size, best_mod, best_sib, class_of, raw, wants_sib}
+use Rattle.x86_grammar.specs.Spells.{is_prefix, counts_of, prefixes_fit, half_in, opcode_bytes, operand_part, bytes_of, Spelling, Spells}
+use Rattle.x86_encode.specs.BestOperand.{best_size, best_sib, class_of, raw, wants_sib}
 use Rattle.x86_encode.specs.BestForm.{best_prefixes, best_operand, best_part, form_best}
 use Rattle.x86_encode.proofs.OperandTest.{length-le}
 use Rattle.x86_encode.proofs.ReadBack.{Shown, operand_shown}

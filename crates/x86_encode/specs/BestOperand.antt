@@ -1,14 +1,12 @@
 -- The best spelling of an operand: the least displacement that does, and SIB only where it must stand. Intel SDM
 -- volume 2, tables 2-2 and 2-3.
-use Rattle.std.specs.Prelude.{◌≡◌, ℕ, zero, suc, ◌+◌, ◌-◌, ◌*◌, ◌/◌, ◌%◌, ◌^◌, ◌<◌, Bool, true, false, ◌&&◌, ◌||◌, if◌then◌else◌, nat_lt, ◌==◌, List, [], ◌∷◌, ◌++◌, Option, Some, None}
+use Rattle.std.specs.Prelude.{ℕ, zero, suc, ◌+◌, ◌*◌, ◌%◌, Bool, true, ◌&&◌, if◌then◌else◌, ◌==◌, List, ◌∷◌, ◌++◌, Option, Some, None}
 use Rattle.x86_types.specs.declared.operand.Reg.{Reg}
 use Rattle.x86_types.specs.declared.operand.Address.{Address}
-use Rattle.x86_types.specs.declared.operand.Rm.{Rm}
-use Rattle.x86_types.specs.declared.operand.Rm.TheVariants as rm
 use Rattle.x86_types.specs.declared.width.Width.TheVariants.{Four}
 use Rattle.x86_types.specs.Numbers.{number_of_reg}
 use Rattle.x86_grammar.specs.Parts.{signed}
-use Rattle.x86_grammar.specs.Operand.{Operand, sibs, le, has_sib}
+use Rattle.x86_grammar.specs.Operand.{sibs, le}
 
 -- 0 for no displacement, 1 for one that fits a byte, 2 for the rest
 abbrev pub class_of : ℕ → ℕ
