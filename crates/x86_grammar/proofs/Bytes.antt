@@ -13,15 +13,12 @@ use Rattle.x86_grammar.specs.Rows.{key_of, has_operand}
 use Rattle.x86_grammar.specs.Attributes.{imm_size}
 use Rattle.x86_grammar.specs.Forms.{forms}
 use Rattle.x86_grammar.specs.Operand.{Operand, IsOperand, le, sibs, has_sib, disp_size}
+use Rattle.x86_grammar.specs.Reading.{AreBytes}
 use Rattle.x86_grammar.specs.Spells.{is_prefix, opcode_bytes, operand_part, bytes_of, Spelling, IsSpelling, Spells}
 use Rattle.x86_grammar.proofs.Again.{row_again}
-use Rattle.x86_grammar.proofs.LittleEndian.{AreBytes}
+use Rattle.x86_grammar.proofs.LittleEndian.{bytes_append}
 use Rattle.x86_grammar.proofs.Map.{or_cases, nothing_there}
 use Rattle.x86_grammar.proofs.Means.{Means, mean_of, forms_mean}
-
-bytes_append : (a b : List ℕ) → AreBytes a → AreBytes b → AreBytes (a ++ b)
-bytes_append [] b p q = q
-bytes_append (x ∷ a) b p q = (p.0, bytes_append a b p.1 q)
 
 le_bytes : (k v : ℕ) → AreBytes (le k v)
 le_bytes zero v = tt
@@ -44,7 +41,7 @@ prefix_bytes : (ps : List ℕ) → AllByRecursion (λ b. is_prefix b ≡ true) p
 prefix_bytes [] h = tt
 prefix_bytes (b ∷ ps) h = (prefix_byte b h.0, prefix_bytes ps h.1)
 
-past : (key : ℕ) → 512 ≤ key → entry_of key ≡ entry.Nothing
+pub past : (key : ℕ) → 512 ≤ key → entry_of key ≡ entry.Nothing
 unfolding entry_of
 past key h =
     let out : length ENTRIES ≤ key / 8 = omega arith in
@@ -68,7 +65,7 @@ operand_are : (b : Bool) (o : Operand) → (b ≡ true → IsOperand o) → AreB
 operand_are false o h = tt
 operand_are true o h = let i = h refl in (i.m, bytes_append (sibs (has_sib o.m) o.sib) (le (disp_size o.m o.sib) o.disp) (sib_bytes (has_sib o.m) o.sib i.sib) (le_bytes (disp_size o.m o.sib) o.disp))
 
-opcode_some : (k : ℕ) → 1 ≤ length (opcode_bytes k)
+pub opcode_some : (k : ℕ) → 1 ≤ length (opcode_bytes k)
 opcode_some k = cond_both (ltb k 256) (k ∷ []) (15 ∷ (k - 256) ∷ []) (λ x. 1 ≤ length x) (λ e. lit≤ tt) (λ e. lit≤ tt)
 
 module _ (i : Instr) (x : Spelling) (ok : IsSpelling x i) where

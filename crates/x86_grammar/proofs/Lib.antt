@@ -3,10 +3,15 @@ pub mod Among
 pub mod Bytes
 pub mod Fit
 pub mod FormsFit
+pub mod Front
 pub mod LittleEndian
 pub mod Map
 pub mod Means
 pub mod Operands
+pub mod Sees
 pub mod Sound
+pub mod Stages
+pub mod Tells
+pub mod Wanted
 pub mod Whole
 pub mod Worked

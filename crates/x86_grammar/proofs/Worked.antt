@@ -1,7 +1,8 @@
 -- Worked spellings of each row of the list, by the manual's pages, and bytes that spell nothing. Each is
 -- computed by the checker.
-use Rattle.std.proofs.Common.{◌≡◌, ℕ, ◌/◌, ◌%◌, ◌^◌, Bool, true, false, not, ltb, leb, eqb, ◌&&◌, ◌||◌, List, [], ◌∷◌, ◌++◌, length, Some, None, inl, inr, refl, sym, ap, ◌∙◌, arith}
+use Rattle.std.proofs.Common.{◌≡◌, ℕ, ◌/◌, ◌%◌, ◌^◌, Bool, true, false, not, ltb, leb, eqb, ◌&&◌, ◌||◌, List, [], ◌∷◌, length, Some, None, inl, inr, refl, sym, ap, ◌∙◌, arith}
 use Rattle.std.proofs.lemmas.Bool.{ltb-true, leb-true, eqb-true, false≢true}
+use Rattle.std.proofs.lemmas.List.{append-nil}
 use Rattle.std.specs.Prelude.{IfSome}
 use Rattle.std.specs.List.{AllByRecursion}
 use Rattle.x86_types.specs.declared.operand.Reg.TheVariants as reg
@@ -15,15 +16,17 @@ use Rattle.x86_types.specs.declared.width.Width.TheVariants.{One, Two, Four}
 use Rattle.x86_types.specs.declared.instr.Instr.{Instr}
 use Rattle.x86_types.specs.declared.instr.Instr.TheVariants as instr
 use Rattle.x86_grammar.specs.declared.row.Form.{Form}
+use Rattle.x86_grammar.specs.declared.reading.Seen.TheVariants.{Found, Never}
 use Rattle.x86_grammar.specs.Table.{entry_of}
 use Rattle.x86_grammar.specs.Rows.{has_operand}
 use Rattle.x86_grammar.specs.Attributes.{imm_size}
 use Rattle.x86_grammar.specs.Forms.{forms, In}
 use Rattle.x86_grammar.specs.Operand.{Operand, IsOperand, has_sib, disp_size, rm_of}
 use Rattle.x86_grammar.specs.Spells.{is_prefix, counts_of, prefixes_fit, half_in, bytes_of, Spells}
+use Rattle.x86_grammar.specs.Reading.{numbers, sib_at, after_m, m_at, plain_at, after_opcode, after_escape, at_opcode, read_from, read}
 use Rattle.x86_grammar.specs.Worked.{at, AllSpelled, NoneSpelled}
 use Rattle.x86_grammar.proofs.Map.{and_left, and_right}
-use Rattle.x86_grammar.proofs.Whole.{Found, Never, numbers, sib_at, after_m, m_at, after_opcode, after_escape, at_opcode, read_from, read, spells_whole}
+use Rattle.x86_grammar.proofs.Whole.{spells_whole}
 
 abbrev operand : ℕ → ℕ → ℕ → Operand
 operand m s d = record { m = m; sib = s; disp = d }
@@ -445,106 +448,102 @@ spelled_87 = spelled (243 ∷ []) _ (operand 0 0 0) _ (inr (inr (inl refl))) tt 
 
 -- ---- reading in vain
 
-never_found : (i : Instr) (x : List ℕ) → Never ≡ Found i x → ⊥
-never_found i x e = cc
-
-append_none : (t : List ℕ) → t ++ [] ≡ t
-append_none [] = refl
-append_none (b ∷ t) = ap (λ (y : List ℕ). b ∷ y) (append_none t)
+never_found : (i : Instr) (left : ℕ) → Never ≡ Found i left → ⊥
+never_found i left e = cc
 
 none_spelled : (t : List ℕ) → read t ≡ Never → (i : Instr) → Spells t i → ⊥
-none_spelled t h i s = never_found i [] (sym h ∙ ap read (sym (append_none t)) ∙ spells_whole t i s [])
+none_spelled t h i s = never_found i 0 (sym h ∙ ap read (sym (append-nil t)) ∙ spells_whole t [] i s)
 
 -- ---- what spells nothing, by tools/worked.py
 
 -- 82 C0 01: opcode 82
 nothing_0 : (i : Instr) → Spells (130 ∷ 192 ∷ 1 ∷ []) i → ⊥
-unfolding entry_of numbers sib_at after_m m_at after_opcode after_escape at_opcode read_from
+unfolding entry_of numbers sib_at after_m m_at plain_at after_opcode after_escape at_opcode read_from
 nothing_0 = none_spelled (130 ∷ 192 ∷ 1 ∷ []) refl
 
 -- F6 C8 01: F6 /1
 nothing_1 : (i : Instr) → Spells (246 ∷ 200 ∷ 1 ∷ []) i → ⊥
-unfolding entry_of numbers sib_at after_m m_at after_opcode after_escape at_opcode read_from
+unfolding entry_of numbers sib_at after_m m_at plain_at after_opcode after_escape at_opcode read_from
 nothing_1 = none_spelled (246 ∷ 200 ∷ 1 ∷ []) refl
 
 -- F7 C8 01 00 00 00: F7 /1
 nothing_2 : (i : Instr) → Spells (247 ∷ 200 ∷ 1 ∷ 0 ∷ 0 ∷ 0 ∷ []) i → ⊥
-unfolding entry_of numbers sib_at after_m m_at after_opcode after_escape at_opcode read_from
+unfolding entry_of numbers sib_at after_m m_at plain_at after_opcode after_escape at_opcode read_from
 nothing_2 = none_spelled (247 ∷ 200 ∷ 1 ∷ 0 ∷ 0 ∷ 0 ∷ []) refl
 
 -- C1 D0 01: a rotate through carry, /2
 nothing_3 : (i : Instr) → Spells (193 ∷ 208 ∷ 1 ∷ []) i → ⊥
-unfolding entry_of numbers sib_at after_m m_at after_opcode after_escape at_opcode read_from
+unfolding entry_of numbers sib_at after_m m_at plain_at after_opcode after_escape at_opcode read_from
 nothing_3 = none_spelled (193 ∷ 208 ∷ 1 ∷ []) refl
 
 -- D1 D8: a rotate through carry, /3
 nothing_4 : (i : Instr) → Spells (209 ∷ 216 ∷ []) i → ⊥
-unfolding entry_of numbers sib_at after_m m_at after_opcode after_escape at_opcode read_from
+unfolding entry_of numbers sib_at after_m m_at plain_at after_opcode after_escape at_opcode read_from
 nothing_4 = none_spelled (209 ∷ 216 ∷ []) refl
 
 -- D3 F0: a shift with /6
 nothing_5 : (i : Instr) → Spells (211 ∷ 240 ∷ []) i → ⊥
-unfolding entry_of numbers sib_at after_m m_at after_opcode after_escape at_opcode read_from
+unfolding entry_of numbers sib_at after_m m_at plain_at after_opcode after_escape at_opcode read_from
 nothing_5 = none_spelled (211 ∷ 240 ∷ []) refl
 
 -- 66 0F C8: 66 before BSWAP
 nothing_6 : (i : Instr) → Spells (102 ∷ 15 ∷ 200 ∷ []) i → ⊥
-unfolding entry_of numbers sib_at after_m m_at after_opcode after_escape at_opcode read_from
+unfolding entry_of numbers sib_at after_m m_at plain_at after_opcode after_escape at_opcode read_from
 nothing_6 = none_spelled (102 ∷ 15 ∷ 200 ∷ []) refl
 
 -- F3 0F BC C1: F3 before BSF
 nothing_7 : (i : Instr) → Spells (243 ∷ 15 ∷ 188 ∷ 193 ∷ []) i → ⊥
-unfolding entry_of numbers sib_at after_m m_at after_opcode after_escape at_opcode read_from
+unfolding entry_of numbers sib_at after_m m_at plain_at after_opcode after_escape at_opcode read_from
 nothing_7 = none_spelled (243 ∷ 15 ∷ 188 ∷ 193 ∷ []) refl
 
 -- 0F 28: MOVAPS
 nothing_8 : (i : Instr) → Spells (15 ∷ 40 ∷ []) i → ⊥
-unfolding entry_of numbers sib_at after_m m_at after_opcode after_escape at_opcode read_from
+unfolding entry_of numbers sib_at after_m m_at plain_at after_opcode after_escape at_opcode read_from
 nothing_8 = none_spelled (15 ∷ 40 ∷ []) refl
 
 -- F3 90: PAUSE
 nothing_9 : (i : Instr) → Spells (243 ∷ 144 ∷ []) i → ⊥
-unfolding entry_of numbers sib_at after_m m_at after_opcode after_escape at_opcode read_from
+unfolding entry_of numbers sib_at after_m m_at plain_at after_opcode after_escape at_opcode read_from
 nothing_9 = none_spelled (243 ∷ 144 ∷ []) refl
 
 -- 66 8F C0: 66 before POP
 nothing_10 : (i : Instr) → Spells (102 ∷ 143 ∷ 192 ∷ []) i → ⊥
-unfolding entry_of numbers sib_at after_m m_at after_opcode after_escape at_opcode read_from
+unfolding entry_of numbers sib_at after_m m_at plain_at after_opcode after_escape at_opcode read_from
 nothing_10 = none_spelled (102 ∷ 143 ∷ 192 ∷ []) refl
 
 -- 3E C3: 3E before RET
 nothing_11 : (i : Instr) → Spells (62 ∷ 195 ∷ []) i → ⊥
-unfolding entry_of numbers sib_at after_m m_at after_opcode after_escape at_opcode read_from
+unfolding entry_of numbers sib_at after_m m_at plain_at after_opcode after_escape at_opcode read_from
 nothing_11 = none_spelled (62 ∷ 195 ∷ []) refl
 
 -- 66 66 05 01 00: two 66
 nothing_12 : (i : Instr) → Spells (102 ∷ 102 ∷ 5 ∷ 1 ∷ 0 ∷ []) i → ⊥
-unfolding entry_of numbers sib_at after_m m_at after_opcode after_escape at_opcode read_from
+unfolding entry_of numbers sib_at after_m m_at plain_at after_opcode after_escape at_opcode read_from
 nothing_12 = none_spelled (102 ∷ 102 ∷ 5 ∷ 1 ∷ 0 ∷ []) refl
 
 -- 8D C0: LEA of a register
 nothing_13 : (i : Instr) → Spells (141 ∷ 192 ∷ []) i → ⊥
-unfolding entry_of numbers sib_at after_m m_at after_opcode after_escape at_opcode read_from
+unfolding entry_of numbers sib_at after_m m_at plain_at after_opcode after_escape at_opcode read_from
 nothing_13 = none_spelled (141 ∷ 192 ∷ []) refl
 
 -- CD 81: another interrupt
 nothing_14 : (i : Instr) → Spells (205 ∷ 129 ∷ []) i → ⊥
-unfolding entry_of numbers sib_at after_m m_at after_opcode after_escape at_opcode read_from
+unfolding entry_of numbers sib_at after_m m_at plain_at after_opcode after_escape at_opcode read_from
 nothing_14 = none_spelled (205 ∷ 129 ∷ []) refl
 
 -- F3 0F 1E FA: ENDBR64
 nothing_15 : (i : Instr) → Spells (243 ∷ 15 ∷ 30 ∷ 250 ∷ []) i → ⊥
-unfolding entry_of numbers sib_at after_m m_at after_opcode after_escape at_opcode read_from
+unfolding entry_of numbers sib_at after_m m_at plain_at after_opcode after_escape at_opcode read_from
 nothing_15 = none_spelled (243 ∷ 15 ∷ 30 ∷ 250 ∷ []) refl
 
 -- 2E 90: 2E before NOP
 nothing_16 : (i : Instr) → Spells (46 ∷ 144 ∷ []) i → ⊥
-unfolding entry_of numbers sib_at after_m m_at after_opcode after_escape at_opcode read_from
+unfolding entry_of numbers sib_at after_m m_at plain_at after_opcode after_escape at_opcode read_from
 nothing_16 = none_spelled (46 ∷ 144 ∷ []) refl
 
 -- F3 F3 A4: two F3
 nothing_17 : (i : Instr) → Spells (243 ∷ 243 ∷ 164 ∷ []) i → ⊥
-unfolding entry_of numbers sib_at after_m m_at after_opcode after_escape at_opcode read_from
+unfolding entry_of numbers sib_at after_m m_at plain_at after_opcode after_escape at_opcode read_from
 nothing_17 = none_spelled (243 ∷ 243 ∷ 164 ∷ []) refl
 
 -- 66 66 66 66 66 66 66 66 66 66 66 66 66 66 66 90: NOP on 16 bytes

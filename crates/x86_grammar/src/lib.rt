@@ -1,6 +1,7 @@
 //! Which bytes spell which instruction.
 #![tactic(auto)]
 
+mod attributes;
 mod fields;
 mod form_laws;
 mod group;
@@ -9,10 +10,11 @@ mod reading;
 mod row;
 mod spelling;
 
+pub use attributes::{can_half, half_in, has_operand, imm_size, key_of, prefixes_fit, width_of};
 pub use form_laws::forms_are_right;
 pub use group::member;
 pub use opcode_map::{ENTRIES, entry_at, opcode_map_is_right};
-pub use reading::Seen;
+pub use reading::{Seen, reading_is_right};
 pub use row::{Counts, Entry, Form, Group, Row};
 pub use spelling::{
     has_spelling, no_spelling_begins_another, spelled_fields_fit, spelling_is_short,

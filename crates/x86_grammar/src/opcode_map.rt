@@ -327,12 +327,15 @@ pub static ENTRIES: [[Entry; 8]; 64] = [
     none!(),
 ];
 
-/// What the opcode says; 256 stands for 0F before the byte.
+/// What the opcode says; 256 stands for 0F before the byte, and beyond that there is nothing.
 pub fn entry_at(key: u16) -> Entry
-    requires { key < 512 }
     ensures entry { result ≡ entry_of key }
 {
-    ENTRIES[key as usize / 8][key as usize % 8]
+    if key < 512 {
+        ENTRIES[key as usize / 8][key as usize % 8]
+    } else {
+        Entry::Nothing
+    }
 }
 
 /// The map has each row at its opcode and middle field, and no other row there.

@@ -1,4 +1,4 @@
-// ghost use Rattle.x86_grammar.specs.Reading.{ReadsRight};
+ghost use Rattle.x86_grammar.specs.Reading.{ReadsRight};
 
 use x86_types::Instr;
 
@@ -11,11 +11,9 @@ pub enum Seen {
     Never,
 }
 
-/*
 /// Reading from left to right finds each spelling's instruction, whatever follows, and what it finds
 /// is spelled; it asks for bytes at each front of a spelling, for no more than are missing, and
 /// with so many bytes more there is a spelling.
 pub fn reading_is_right()
     ensures right { ReadsRight }
 {}
-*/

@@ -1,10 +1,12 @@
 #!/usr/bin/env python3
 """The rows of the opcode map, and the files that follow from them alone.
 
-Run it in the crate's folder: it writes specs/Rows.antt, specs/Attributes.antt, specs/Meaning.antt
-and proofs/Again.antt. With the word "enum" it prints the variants of Row. The map itself,
-src/opcode_map.rt, is written by hand, and proofs/Again.antt checks it against this list.
+Run it in the crate's folder: it writes specs/Rows.antt, specs/Attributes.antt, specs/Meaning.antt,
+src/attributes.rt and proofs/Again.antt. With the word "enum" it prints the variants of Row. The map
+itself, src/opcode_map.rt, is written by hand, and proofs/Again.antt checks it against this list.
 """
+import re
+import sys
 
 # name, payload (o: operation, s: shift, f: width One or not, r: register, c: condition),
 # opcode (256 for 0F before it), middle field or None, ModRM, 66, bytes of the number, meaning
@@ -216,6 +218,156 @@ def attributes_spec():
     return "\n".join(out)
 
 
+ATTRIBUTES_CODE_HEAD = """ghost use Rattle.std.specs.Prelude.{◌≡◌, ◌<◌, ◌≤◌};
+ghost use Rattle.x86_types.specs.Numbers.{number_of_alu, number_of_cond, number_of_reg};
+ghost use Rattle.x86_grammar.specs.Attributes as spec;
+ghost use Rattle.x86_grammar.specs.Rows as rows;
+ghost use Rattle.x86_grammar.specs.Spells as spells;
+
+use crate::row::{Counts, Row};
+use x86_types::{AluOp, Cond, Reg, Width, alu_number, cond_number, reg_number};
+
+fn bit(full: bool) -> u16
+    ensures number { result ≡ rows.bit full }
+    ensures small { result < 2 }
+{
+    if full { 1 } else { 0 }
+}
+
+fn alu_bits(op: AluOp) -> u16
+    ensures number { result ≡ number_of_alu op }
+    ensures small { result < 8 }
+{
+    alu_number(op) as u16
+}
+
+fn reg_bits(reg: Reg) -> u16
+    ensures number { result ≡ number_of_reg reg }
+    ensures small { result < 8 }
+{
+    reg_number(reg) as u16
+}
+
+fn cond_bits(cond: Cond) -> u16
+    ensures number { result ≡ number_of_cond cond }
+    ensures small { result < 16 }
+{
+    cond_number(cond) as u16
+}
+
+/// The row's opcode; 256 stands for 0F before the byte.
+pub fn key_of(row: Row) -> u16
+    ensures key { result ≡ rows.key_of row }
+    ensures small { result < 512 }
+{
+    match row {
+"""
+
+ATTRIBUTES_CODE_REST = """
+fn any_halves(row: Row) -> bool
+    ensures { result ≡ spec.any_halves row }
+{
+    match row {
+        Row::Nop => true,
+        Row::NopLong => true,
+        _ => false,
+    }
+}
+
+fn any_segments(row: Row) -> bool
+    ensures { result ≡ spec.any_segments row }
+{
+    match row {
+        Row::Lea => true,
+        Row::NopLong => true,
+        _ => false,
+    }
+}
+
+fn can_hint(row: Row) -> bool
+    ensures { result ≡ spec.can_hint row }
+{
+    match row {
+        Row::JmpTo => true,
+        Row::CallTo => true,
+        _ => false,
+    }
+}
+
+fn rep_fits(row: Row, rep: bool) -> bool
+    ensures { result ≡ spec.rep_fits row rep }
+{
+    match row {
+        Row::Ret => true,
+        Row::Movs(_) => true,
+        Row::Stos(_) => true,
+        Row::NopEnd => rep,
+        _ => !rep,
+    }
+}
+
+/// Whether 66 makes width Two: exactly one stands, and the row knows it.
+pub fn half_in(row: Row, counts: Counts) -> bool
+    ensures { result ≡ spells.half_in row counts }
+{
+    counts.halves == 1 && can_half(row)
+}
+
+/// Whether the prefixes are those that the row knows.
+pub fn prefixes_fit(row: Row, counts: Counts) -> bool
+    ensures { result ≡ spells.prefixes_fit row counts }
+{
+    (counts.halves == 0 || (counts.halves == 1 && can_half(row)) || any_halves(row))
+        && (counts.segments == 0 || any_segments(row))
+        && (counts.hints == 0 || (counts.hints == 1 && can_hint(row)))
+        && counts.repeats < 2
+        && rep_fits(row, counts.repeats == 1)
+}
+"""
+
+RUST_NAMES = {"o": "op", "s": "op", "f": "full", "r": "reg", "c": "cond"}
+
+
+def rust_pattern(row, used):
+    """The row's pattern in Rust, naming the payload of those kinds alone."""
+    names = [RUST_NAMES[p] if p in used else "_" for p in row[1]]
+    return "Row::" + row[0] + (f"({', '.join(names)})" if names else "")
+
+
+def rust_key(row):
+    answer = re.sub(r"number_of_(\w+) \w+", lambda m: m[1] + "_bits(" + m[1] + ")", row[2])
+    return answer.replace("alu_bits(alu)", "alu_bits(op)").replace("bit full", "bit(full)")
+
+
+def attributes_code():
+    out = [ATTRIBUTES_CODE_HEAD.rstrip("\n")]
+    out += [f"        {rust_pattern(r, r[1].replace('s', ''))} => {rust_key(r)}," for r in ROWS]
+    out += ["    }", "}", "", "/// Whether ModRM stands behind the row's opcode.",
+            "pub fn has_operand(row: Row) -> bool",
+            "    ensures { result ≡ rows.has_operand row }", "{", "    match row {"]
+    out += [f"        {rust_pattern(r, '')} => {'true' if r[4] else 'false'}," for r in ROWS]
+    out += ["    }", "}", "", "/// Whether one 66 makes width Two.",
+            "pub fn can_half(row: Row) -> bool",
+            "    ensures { result ≡ spec.can_half row }", "{", "    match row {"]
+    out += [f"        {rust_pattern(r, 'f' if r[5] == 'full' else '')} => {r[5]}," for r in ROWS]
+    size = {"wide": "wide_size(full, half)", "wide4": "wide_size(true, half)"}
+    out += ["    }", "}", "", "/// The width of an opcode: One where it isn't full, else Two behind 66 and Four without.",
+            "pub fn width_of(full: bool, half: bool) -> Width",
+            "    ensures { result ≡ spec.width_of full half }", "{",
+            "    match (full, half) {", "        (false, _) => Width::One,",
+            "        (true, true) => Width::Two,", "        (true, false) => Width::Four,",
+            "    }", "}", "", "fn wide_size(full: bool, half: bool) -> u8",
+            "    ensures size { result ≡ spec.wide_size full half }",
+            "    ensures few { result ≤ 4 }", "{", "    width_of(full, half).size()", "}", "",
+            "/// The bytes of the number at the row's end: none, one, two or four.",
+            "pub fn imm_size(row: Row, half: bool) -> u8",
+            "    ensures size { result ≡ spec.imm_size row half }",
+            "    ensures few { result ≤ 4 }", "{", "    match row {"]
+    out += [f"        {rust_pattern(r, 'f' if r[6] == 'wide' else '')} => {size.get(r[6], r[6])},"
+            for r in ROWS]
+    return "\n".join(out + ["    }", "}", ATTRIBUTES_CODE_REST])
+
+
 MEANING_HEAD = """-- What the parts of a spelling mean: the row, whether 66 makes width Two, whether F3 stands, ModRM's
 -- middle field, its operand, and the number at the end.
 use Rattle.std.specs.Prelude.{ℕ, Bool, true, Option, Some, None, if◌then◌else◌, ◌==◌}
@@ -292,11 +444,11 @@ def again_proof():
 
 
 if __name__ == "__main__":
-    import sys
     if sys.argv[1:] == ["enum"]:
         print(rust_enum())
     else:
         open("specs/Rows.antt", "w").write(rows_spec())
         open("specs/Attributes.antt", "w").write(attributes_spec())
         open("specs/Meaning.antt", "w").write(meaning_spec())
+        open("src/attributes.rt", "w").write(attributes_code())
         open("proofs/Again.antt", "w").write(again_proof())

@@ -154,7 +154,7 @@ TOO_LONG = [
     ("2E 2E 2E 2E 2E 2E 2E 2E 2E 2E 2E 2E 2E 2E 2E 2E", "16 prefixes"),
 ]
 
-READER = "entry_of numbers sib_at after_m m_at after_opcode after_escape at_opcode read_from"
+READER = "entry_of numbers sib_at after_m m_at plain_at after_opcode after_escape at_opcode read_from"
 
 
 def numbers(text):

@@ -1,0 +1,3 @@
+pub mod Decoding
+pub use Rattle.x86_grammar.specs.Fronts
+pub use Rattle.x86_grammar.specs.Reading
