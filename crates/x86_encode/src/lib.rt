@@ -1,2 +1,4 @@
 //! Writing an instruction as bytes: its best spelling.
 #![tactic(auto)]
+
+mod text;
