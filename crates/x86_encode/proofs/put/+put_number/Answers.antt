@@ -1,7 +1,7 @@
 use Rattle.std.proofs.Common.{◌≡◌, ℕ, suc, ◌-◌, ◌/◌, ◌%◌, [], ◌∷◌, ◌++◌, ◌∙◌, sym, ap, append_assoc, arith}
 use Rattle.x86_grammar.specs.Operand.{le}
 use Rattle.x86_encode.specs.Text.{text}
-use Rattle.x86_encode.proofs.text.+put_number.Goals as goal
+use Rattle.x86_encode.proofs.put.+put_number.Goals as goal
 
 pub returns-then-size-gt0-clause-text : goal.returns-then-size-gt0-clause-text
 returns-then-size-gt0-clause-text t c =
