@@ -54,6 +54,12 @@ raw (suc (suc n)) d = d
 abbrev pub best_m : ℕ → Address → ℕ
 best_m n a = 64 * best_mod a.base (class_of a.disp) + (8 * n + best_rm a.base a.index)
 
+abbrev pub best_sibs : Address → List ℕ
+best_sibs a = sibs (wants_sib a.base a.index) (best_sib a.base a.index a.scale)
+
+abbrev pub best_disp : Address → List ℕ
+best_disp a = le (best_size a.base (class_of a.disp)) (raw (best_size a.base (class_of a.disp)) a.disp)
+
 -- ModRM, SIB and the displacement, with that middle field
 abbrev pub best_bytes : ℕ → Address → List ℕ
-best_bytes n a = best_m n a ∷ (sibs (wants_sib a.base a.index) (best_sib a.base a.index a.scale) ++ le (best_size a.base (class_of a.disp)) (raw (best_size a.base (class_of a.disp)) a.disp))
+best_bytes n a = best_m n a ∷ (best_sibs a ++ best_disp a)

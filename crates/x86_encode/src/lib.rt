@@ -1,6 +1,8 @@
 //! Writing an instruction as bytes: its best spelling.
 #![tactic(auto)]
 
+mod operand;
 mod order;
+mod parts;
 mod put;
 mod text;
