@@ -182,6 +182,6 @@ picks_one a (f ∷ fs) =
     ]
 
 -- forms that are picked one behind the other
-pub picks-append : (a : List ℕ) (fs gs : List Form) → picks a (fs ++ gs) ≡ picks (picks a fs) gs
-picks-append a [] gs = refl
-picks-append a (f ∷ fs) gs = picks-append (lesser a (form_best f)) fs gs
+pub joined : (a : List ℕ) (fs gs : List Form) → picks a (fs ++ gs) ≡ picks (picks a fs) gs
+joined a [] gs = refl
+joined a (f ∷ fs) gs = joined (lesser a (form_best f)) fs gs

@@ -16,10 +16,8 @@ use Rattle.x86_encode.specs.BestOperand.{class_of, best_mod, best_size, best_rm,
 use Rattle.x86_encode.specs.BestForm.{best_operand}
 use Rattle.x86_encode.proofs.Ordering.{and_left, and_right}
 use Rattle.x86_encode.proofs.OperandTest.{class_small, sib_same, base_same, index_same, size_same}
+use Rattle.x86_encode.proofs.Fields.{reg_low}
 use Rattle.x86_encode.proofs.RoundTest.{Says, best_says}
-
-pub reg_low : (r : Reg) → number_of_reg r < 8
-reg_low r = elim r as (λ r. number_of_reg r < 8) [ reg.Eax ↦ lit< tt | _ ↦ lit< tt ]
 
 low_low : (b : Option Reg) → low b < 8
 low_low None = lit< tt

@@ -8,6 +8,7 @@ ghost use Rattle.x86_encode.specs.Text.{text};
 
 use crate::operand::put_operand;
 use crate::order::is_before;
+use crate::parts::is_half;
 use crate::put::{empty, put, put_number};
 use crate::text::Text;
 use x86_grammar::{Form, Row, has_operand, imm_size, key_of};
@@ -71,27 +72,6 @@ pub(crate) fn offer(best: &mut Text, form: Form)
     let next = text_of(form);
     if is_before(&next, best) {
         *best = next;
-    }
-}
-
-fn is_half(width: Width) -> bool
-    ensures { result ≡ parts.half_of width }
-{
-    match width {
-        Width::One => false,
-        Width::Two => true,
-        Width::Four => false,
-    }
-}
-
-/// Whether the opcode isn't that of width One.
-pub(crate) fn is_full(width: Width) -> bool
-    ensures { result ≡ parts.full_of width }
-{
-    match width {
-        Width::One => false,
-        Width::Two => true,
-        Width::Four => true,
     }
 }
 

@@ -1,6 +1,7 @@
 //! Writing an instruction as bytes: its best spelling.
 #![tactic(auto)]
 
+mod arithmetic;
 mod form;
 mod operand;
 mod order;
