@@ -86,3 +86,54 @@ pub(crate) fn test(best: &mut Text, width: Width, left: Rm, right: Src)
         }
     }
 }
+
+/// A row with a register in the middle field, at widths Two and Four.
+pub(crate) fn to_reg(best: &mut Text, row: Row, width: Width, to: Reg, from: Rm)
+    ensures { text best.new ≡ picks (text best.old) (forms.to_reg row width to from) }
+{
+    match width {
+        Width::One => {}
+        Width::Two | Width::Four => offer_rm(best, row, width, number_of(to), from, 0),
+    }
+}
+
+pub(crate) fn imul_by(best: &mut Text, width: Width, to: Reg, from: Rm, by: u32)
+    ensures { text best.new ≡ picks (text best.old) (forms.imul_by_forms width to from by) }
+{
+    match width {
+        Width::One => {}
+        Width::Two | Width::Four => {
+            offer_rm(best, Row::ImulWord, width, number_of(to), from, by);
+            if is_signed_byte(width, by) {
+                offer_rm(best, Row::ImulByte, width, number_of(to), from, by % 256);
+            }
+        }
+    }
+}
+
+pub(crate) fn shift(best: &mut Text, op: ShiftOp, width: Width, to: Rm, count: Count)
+    ensures { text best.new ≡ picks (text best.old) (forms.shift_forms op width to count) }
+{
+    let full = is_full(width);
+    let middle = number_of_shift(op);
+    match count {
+        Count::Imm(value) => {
+            offer_rm(best, Row::ShiftImm(op, full), width, middle, to, value as u32);
+            if value == 1 {
+                offer_rm(best, Row::ShiftOne(op, full), width, middle, to, 0);
+            }
+        }
+        Count::Cl => offer_rm(best, Row::ShiftCl(op, full), width, middle, to, 0),
+    }
+}
+
+/// A shift of two operands, by a constant or by Cl.
+pub(crate) fn double(best: &mut Text, imm: Row, cl: Row, to: Rm, from: Reg, count: Count)
+    ensures { text best.new ≡ picks (text best.old) (forms.double_forms imm cl to from count) }
+{
+    let middle = number_of(from);
+    match count {
+        Count::Imm(value) => offer_rm(best, imm, Width::Four, middle, to, value as u32),
+        Count::Cl => offer_rm(best, cl, Width::Four, middle, to, 0),
+    }
+}

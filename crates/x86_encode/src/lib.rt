@@ -3,6 +3,7 @@
 
 mod arithmetic;
 mod form;
+mod moves;
 mod operand;
 mod order;
 mod parts;
