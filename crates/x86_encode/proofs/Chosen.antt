@@ -22,7 +22,7 @@ use Rattle.x86_grammar.specs.Spells.{Spells}
 use Rattle.x86_encode.specs.Order.{Before}
 use Rattle.x86_encode.specs.Best.{IsBest, is_short, SpellsWide, IsBestWide}
 use Rattle.x86_encode.specs.BestForm.{form_best}
-use Rattle.x86_encode.specs.Choice.{picks, no_text, wide_forms}
+use Rattle.x86_encode.specs.Choice.{picks, no_text, forms_at}
 use Rattle.x86_encode.proofs.Ordering.{NotAfter, NotAfter-trans, no_longer, same_or_before, Picked, picks_least, picks_one}
 use Rattle.x86_encode.proofs.BestForms.{form_is_best}
 use Rattle.x86_encode.proofs.Spelled.{form_short, form_spelled, form_is}
@@ -45,6 +45,11 @@ pub record Laws : Type 0 where
   pub reg_again : (r : Reg) → reg_of (number_of_reg r) ≡ r
   pub number_again : (n : ℕ) → n < 8 → number_of_reg (reg_of n) ≡ n
 
+all_at : (i : Instr) → forms_at false i ≡ forms i
+all_at (instr.Jmp by) = refl
+all_at (instr.Jcc c by) = refl
+all_at i = refl
+
 module _ (laws : Laws) (i : Instr) (ok : fields_fit i ≡ true) where
   best_of : (f : Form) → In f (forms i) → Spells (form_best f) i
   best_of f h = form_spelled laws.reg_again i f h (laws.forms_right.fit i f ok h) (laws.forms_right.suits i f h)
@@ -56,13 +61,16 @@ module _ (laws : Laws) (i : Instr) (ok : fields_fit i ≡ true) where
       let two = form_is_best laws.number_again i s.spelling s.right in
       same_or_before _ u (subst (λ (x : List ℕ). NotAfter (picks no_text fs) x) (sym s.bytes_are) (NotAfter-trans _ (form_best s.spelling.form) _ one two))
 
-  pub best_is : HasSpelling i → IsBest i (picks no_text (forms i))
-  best_is has =
+  of_all : HasSpelling i → IsBest i (picks no_text (forms i))
+  of_all has =
       let p = picked (forms i) has.spells.spelling.form has.spells.right.among in
       record {
         spells = subst (λ (x : List ℕ). Spells x i) (sym p.is) (best_of p.form p.among);
         first = λ u s. first_of_forms (forms i) u s s.right.among;
       }
+
+  pub best_is : HasSpelling i → IsBest i (picks no_text (forms_at false i))
+  best_is has = subst (λ (fs : List Form). IsBest i (picks no_text fs)) (sym (all_at i)) (of_all has)
 
 -- ---- without the short jumps
 
@@ -96,7 +104,7 @@ pub record InBoth (f : Form) (i : Instr) : Type 0 where
   pub among : In f (forms i)
   pub long : is_short f.row ≡ false
 
-wide_in : FormsAreRight → (i : Instr) (f : Form) → In f (wide_forms i) → InBoth f i
+wide_in : FormsAreRight → (i : Instr) (f : Form) → In f (forms_at true i) → InBoth f i
 wide_in right (instr.Jmp by) f (inl h) = record { among = inl h; long = long_row f _ h refl }
 wide_in right (instr.Jmp by) f (inr h) = absurd h
 wide_in right (instr.Jcc c by) f (inl h) = record { among = inl h; long = long_row f _ h refl }
@@ -111,14 +119,14 @@ in_one false f g h = absurd h
 no_short : (b : Bool) (f g : Form) → In f (cond b (g ∷ []) []) → is_short g.row ≡ true → is_short f.row ≡ false → ⊥
 no_short b f g h s e = false≢true (sym e ∙ subst (λ (x : Form). is_short x.row ≡ true) (sym (in_one b f g h)) s)
 
-in_wide : (i : Instr) (f : Form) → In f (forms i) → is_short f.row ≡ false → In f (wide_forms i)
+in_wide : (i : Instr) (f : Form) → In f (forms i) → is_short f.row ≡ false → In f (forms_at true i)
 in_wide (instr.Jmp by) f (inl h) e = inl h
 in_wide (instr.Jmp by) f (inr h) e = absurd (no_short _ f _ h refl e)
 in_wide (instr.Jcc c by) f (inl h) e = inl h
 in_wide (instr.Jcc c by) f (inr h) e = absurd (no_short _ f _ h refl e)
 in_wide i f h e = h
 
-some_wide : (i : Instr) (f : Form) → In f (forms i) → (g : Form) × (In g (wide_forms i))
+some_wide : (i : Instr) (f : Form) → In f (forms i) → (g : Form) × (In g (forms_at true i))
 some_wide (instr.Jmp by) f h = (plain row.JmpNear Four by, inl refl)
 some_wide (instr.Jcc c by) f h = (plain (row.JccNear c) Four by, inl refl)
 some_wide i f h = (f, h)
@@ -133,11 +141,11 @@ module _ (laws : Laws) (i : Instr) (ok : fields_fit i ≡ true) where
         wide = subst (λ (x : Form). is_short x.row ≡ false) (sym (form_is laws.reg_again i f b.among fits suits)) b.long;
       }
 
-  pub best_wide_is : HasSpelling i → IsBestWide i (picks no_text (wide_forms i))
+  pub best_wide_is : HasSpelling i → IsBestWide i (picks no_text (forms_at true i))
   best_wide_is has =
       let g = some_wide i has.spells.spelling.form has.spells.right.among in
-      let p = picked (wide_forms i) g.0 g.1 in
+      let p = picked (forms_at true i) g.0 g.1 in
       record {
         spells = subst (λ (x : List ℕ). SpellsWide x i) (sym p.is) (wide_of p.form (wide_in laws.forms_right i p.form p.among));
-        first = λ u s. first_of_forms laws i ok (wide_forms i) u s.spells (in_wide i s.spells.spelling.form s.spells.right.among s.wide);
+        first = λ u s. first_of_forms laws i ok (forms_at true i) u s.spells (in_wide i s.spells.spelling.form s.spells.right.among s.wide);
       }

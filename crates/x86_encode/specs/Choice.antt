@@ -6,7 +6,7 @@ use Rattle.x86_types.specs.declared.width.Width.TheVariants.{Four}
 use Rattle.x86_grammar.specs.declared.row.Form.{Form}
 use Rattle.x86_grammar.specs.declared.row.Row.TheVariants as row
 use Rattle.x86_grammar.specs.Forms.{forms}
-use Rattle.x86_grammar.specs.Parts.{plain}
+use Rattle.x86_grammar.specs.Parts.{plain, if_signed}
 use Rattle.x86_encode.specs.BestForm.{form_best}
 
 abbrev pub before_by_bytes : List ℕ → List ℕ → Bool
@@ -28,12 +28,12 @@ picks a (f ∷ fs) = picks (lesser a (form_best f)) fs
 abbrev pub no_text : List ℕ
 no_text = replicate 16 0
 
--- the forms without the short jumps
-abbrev pub wide_forms : Instr → List Form
-wide_forms (instr.Jmp by) = plain row.JmpNear Four by ∷ []
-wide_forms (instr.Jcc c by) = plain (row.JccNear c) Four by ∷ []
-wide_forms i = forms i
+abbrev pub unless : Bool → List Form → List Form
+unless true fs = []
+unless false fs = fs
 
+-- the forms, without the short jumps where it is true
 abbrev pub forms_at : Bool → Instr → List Form
-forms_at true i = wide_forms i
-forms_at false i = forms i
+forms_at wide (instr.Jmp by) = plain row.JmpNear Four by ∷ unless wide (if_signed Four by (λ b. plain row.JmpShort Four b))
+forms_at wide (instr.Jcc c by) = plain (row.JccNear c) Four by ∷ unless wide (if_signed Four by (λ b. plain (row.JccShort c) Four b))
+forms_at wide i = forms i

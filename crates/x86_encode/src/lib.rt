@@ -3,9 +3,11 @@
 
 mod arithmetic;
 mod form;
+mod jumps;
 mod moves;
 mod operand;
 mod order;
 mod parts;
 mod put;
 mod text;
+mod units;
