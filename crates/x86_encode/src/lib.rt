@@ -3,6 +3,7 @@
 
 mod arithmetic;
 mod form;
+mod forms;
 mod jumps;
 mod moves;
 mod operand;
