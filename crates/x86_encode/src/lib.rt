@@ -2,6 +2,7 @@
 #![tactic(auto)]
 
 mod arithmetic;
+mod encoder;
 mod form;
 mod forms;
 mod jumps;
@@ -12,3 +13,5 @@ mod parts;
 mod put;
 mod text;
 mod units;
+
+pub use encoder::{encode, encode_wide};
