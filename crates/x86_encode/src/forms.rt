@@ -3,7 +3,7 @@ ghost use Rattle.x86_encode.specs.Choice.{forms_at, picks};
 ghost use Rattle.x86_encode.specs.Text.{text};
 
 use crate::arithmetic::{alu, double, imul_by, shift, test, to_reg};
-use crate::form::{offer_plain, offer_repeated, offer_rm};
+use crate::offer::{offer_plain, offer_repeated, offer_rm};
 use crate::jumps::{jcc, jmp, nop, ret};
 use crate::moves::{lea, mov, pop, push, widen, xchg};
 use crate::parts::is_full;

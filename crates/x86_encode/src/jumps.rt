@@ -4,7 +4,7 @@ ghost use Rattle.x86_grammar.specs.Forms as forms;
 ghost use Rattle.x86_encode.specs.Choice.{forms_at, picks};
 ghost use Rattle.x86_encode.specs.Text.{text};
 
-use crate::form::{offer_plain, offer_repeated};
+use crate::offer::{offer_plain, offer_repeated};
 use crate::parts::is_signed_byte;
 use crate::text::Text;
 use x86_grammar::Row;

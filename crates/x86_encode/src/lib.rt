@@ -3,14 +3,16 @@
 
 mod arithmetic;
 mod encoder;
-mod form;
 mod forms;
 mod jumps;
 mod moves;
+mod offer;
 mod operand;
 mod order;
 mod parts;
 mod put;
+#[cfg(test)]
+mod tests;
 mod text;
 mod units;
 

@@ -6,7 +6,7 @@ ghost use Rattle.x86_grammar.specs.Parts as parts;
 ghost use Rattle.x86_encode.specs.Choice.{picks};
 ghost use Rattle.x86_encode.specs.Text.{text};
 
-use crate::form::{offer_plain, offer_rm};
+use crate::offer::{offer_plain, offer_rm};
 use crate::parts::is_full;
 use crate::text::Text;
 use x86_grammar::Row;
