@@ -100,9 +100,9 @@ best_front can (x ∷ []) = one x (eqb x 102) (eqb x 243) can refl refl
 best_front can (x ∷ y ∷ t) =
     let c : Counts = counted no_counts (x ∷ y ∷ t) in
     some _ _ x y t (λ h p e.
-        let n = rw e at (eqb-true c.halves 1 (and_left (eqb c.halves 1) can h)) in
-        let k = rw e at (eqb-true c.repeats 1 p) in
-        two x y _ _ _ _ refl refl refl refl (omega (arith, n)) (omega (arith, k)))
+    let n = rw e at (eqb-true c.halves 1 (and_left (eqb c.halves 1) can h)) in
+    let k = rw e at (eqb-true c.repeats 1 p) in
+    two x y _ _ _ _ refl refl refl refl (omega (arith, n)) (omega (arith, k)))
 
 module _ (reg_again : (n : ℕ) → n < 8 → number_of_reg (reg_of n) ≡ n) (i : Instr) (x : Spelling) (ok : IsSpelling x i) where
   operand_best : (b : Bool) → has_operand x.form.row ≡ b → NotAfter (best_part b x.form.rm x.form.middle) (operand_part b x.operand)

@@ -51,8 +51,8 @@ again : (b : Option Reg) (d : ℕ) → d < 256 ^ 4 → Again (best_size b (class
 again None d lt = again_four d lt
 again (Some r) d lt =
     cond_both (eqb d 0) 0 (cond (eqb (signed Four (d % 256)) d) 1 2) (λ c. Again (best_size (Some r) c) d)
-      (λ e. let z = eqb-true d 0 e in cond_both (eqb (number_of_reg r) 5) 1 0 (λ s. Again s d) (λ f. again_one d (zero_one d z)) (λ f. again_zero d z))
-      (λ e. cond_both (eqb (signed Four (d % 256)) d) 1 2 (λ c. Again (best_size (Some r) c) d) (λ f. again_one d (eqb-true _ _ f)) (λ f. again_four d lt))
+    (λ e. let z = eqb-true d 0 e in cond_both (eqb (number_of_reg r) 5) 1 0 (λ s. Again s d) (λ f. again_one d (zero_one d z)) (λ f. again_zero d z))
+    (λ e. cond_both (eqb (signed Four (d % 256)) d) 1 2 (λ c. Again (best_size (Some r) c) d) (λ f. again_one d (eqb-true _ _ f)) (λ f. again_four d lt))
 
 -- ---- an operand with that middle field that says that, and has those bytes
 pub record Shown (n : ℕ) (x : Option Rm) (bytes : List ℕ) : Type 0 where

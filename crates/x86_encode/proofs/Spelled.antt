@@ -84,8 +84,8 @@ class_size : (b : Option Reg) (d : ℕ) → best_size b (class_of d) ≤ 4
 class_size None d = lit≤ tt
 class_size (Some r) d =
     cond_both (eqb d 0) 0 (cond (eqb (signed Four (d % 256)) d) 1 2) (λ c. best_size (Some r) c ≤ 4)
-      (λ e. cond_both (eqb (number_of_reg r) 5) 1 0 (λ s. s ≤ 4) (λ f. lit≤ tt) (λ f. lit≤ tt))
-      (λ e. cond_both (eqb (signed Four (d % 256)) d) 1 2 (λ c. best_size (Some r) c ≤ 4) (λ f. lit≤ tt) (λ f. lit≤ tt))
+    (λ e. cond_both (eqb (number_of_reg r) 5) 1 0 (λ s. s ≤ 4) (λ f. lit≤ tt) (λ f. lit≤ tt))
+    (λ e. cond_both (eqb (signed Four (d % 256)) d) 1 2 (λ c. best_size (Some r) c ≤ 4) (λ f. lit≤ tt) (λ f. lit≤ tt))
 
 part_short : (b : Bool) (o : Option Rm) (n : ℕ) → length (best_part b o n) ≤ 6
 part_short false o n = lit≤ tt

@@ -18,7 +18,14 @@ fn alu_from_reg(best: &mut Text, op: AluOp, width: Width, to: Rm, from: Reg)
     let full = is_full(width);
     offer_rm(best, Row::AluToRm(op, full), width, number_of(from), to, 0);
     if let Rm::Reg(reg) = to {
-        offer_rm(best, Row::AluToReg(op, full), width, number_of(reg), Rm::Reg(from), 0);
+        offer_rm(
+            best,
+            Row::AluToReg(op, full),
+            width,
+            number_of(reg),
+            Rm::Reg(from),
+            0,
+        );
     }
 }
 
@@ -118,7 +125,14 @@ pub(crate) fn shift(best: &mut Text, op: ShiftOp, width: Width, to: Rm, count: C
     let middle = number_of_shift(op);
     match count {
         Count::Imm(value) => {
-            offer_rm(best, Row::ShiftImm(op, full), width, middle, to, value as u32);
+            offer_rm(
+                best,
+                Row::ShiftImm(op, full),
+                width,
+                middle,
+                to,
+                value as u32,
+            );
             if value == 1 {
                 offer_rm(best, Row::ShiftOne(op, full), width, middle, to, 0);
             }

@@ -3,9 +3,9 @@ ghost use Rattle.x86_encode.specs.Choice.{forms_at, picks};
 ghost use Rattle.x86_encode.specs.Text.{text};
 
 use crate::arithmetic::{alu, double, imul_by, shift, test, to_reg};
-use crate::offer::{offer_plain, offer_repeated, offer_rm};
 use crate::jumps::{jcc, jmp, nop, ret};
 use crate::moves::{lea, mov, pop, push, widen, xchg};
+use crate::offer::{offer_plain, offer_repeated, offer_rm};
 use crate::parts::is_full;
 use crate::text::Text;
 use crate::units::{alone, dec, inc};
@@ -17,7 +17,12 @@ pub(crate) fn offer_forms(best: &mut Text, wide: bool, instr: Instr)
     ensures { text best.new ≡ picks (text best.old) (forms_at wide instr) }
 {
     match instr {
-        Instr::Alu { op, width, to, from } => alu(best, op, width, to, from),
+        Instr::Alu {
+            op,
+            width,
+            to,
+            from,
+        } => alu(best, op, width, to, from),
         Instr::Test { width, left, right } => test(best, width, left, right),
         Instr::Mov { width, to, from } => mov(best, width, to, from),
         Instr::Lea { width, to, at } => lea(best, width, to, at),
@@ -32,8 +37,18 @@ pub(crate) fn offer_forms(best: &mut Text, wide: bool, instr: Instr)
         Instr::Div { width, from } => offer_rm(best, Row::Div(is_full(width)), width, 6, from, 0),
         Instr::Idiv { width, from } => offer_rm(best, Row::Idiv(is_full(width)), width, 7, from, 0),
         Instr::Imul { width, to, from } => to_reg(best, Row::Imul, width, to, from),
-        Instr::ImulBy { width, to, from, by } => imul_by(best, width, to, from, by),
-        Instr::Shift { op, width, to, count } => shift(best, op, width, to, count),
+        Instr::ImulBy {
+            width,
+            to,
+            from,
+            by,
+        } => imul_by(best, width, to, from, by),
+        Instr::Shift {
+            op,
+            width,
+            to,
+            count,
+        } => shift(best, op, width, to, count),
         Instr::Shld { to, from, count } => {
             double(best, Row::ShldImm, Row::ShldCl, to, from, count)
         }
@@ -43,13 +58,24 @@ pub(crate) fn offer_forms(best: &mut Text, wide: bool, instr: Instr)
         Instr::Push { from } => push(best, from),
         Instr::Pop { to } => pop(best, to),
         Instr::Xchg { width, left, right } => xchg(best, width, left, right),
-        Instr::Movzx { wide, width, to, from } => {
-            widen(best, Row::MovzxByte, Row::MovzxWord, wide, width, to, from)
-        }
-        Instr::Movsx { wide, width, to, from } => {
-            widen(best, Row::MovsxByte, Row::MovsxWord, wide, width, to, from)
-        }
-        Instr::Cmov { cond, width, to, from } => to_reg(best, Row::Cmov(cond), width, to, from),
+        Instr::Movzx {
+            wide,
+            width,
+            to,
+            from,
+        } => { widen(best, Row::MovzxByte, Row::MovzxWord, wide, width, to, from) }
+        Instr::Movsx {
+            wide,
+            width,
+            to,
+            from,
+        } => { widen(best, Row::MovsxByte, Row::MovsxWord, wide, width, to, from) }
+        Instr::Cmov {
+            cond,
+            width,
+            to,
+            from,
+        } => to_reg(best, Row::Cmov(cond), width, to, from),
         Instr::Setcc { cond, to } => offer_rm(best, Row::Setcc(cond), Width::Four, 0, to, 0),
         Instr::Extend { width } => alone(best, Row::Extend, width),
         Instr::Spread { width } => alone(best, Row::Spread, width),

@@ -57,7 +57,14 @@ fn mov_from_reg(best: &mut Text, width: Width, to: Rm, from: Reg)
     offer_rm(best, Row::MovToRm(full), width, number_of(from), to, 0);
     match to {
         Rm::Reg(reg) => {
-            offer_rm(best, Row::MovToReg(full), width, number_of(reg), Rm::Reg(from), 0);
+            offer_rm(
+                best,
+                Row::MovToReg(full),
+                width,
+                number_of(reg),
+                Rm::Reg(from),
+                0,
+            );
         }
         Rm::Mem(_) => {}
     }
@@ -153,7 +160,14 @@ fn xchg_short(best: &mut Text, width: Width, left: Rm, right: Reg)
 pub(crate) fn xchg(best: &mut Text, width: Width, left: Rm, right: Reg)
     ensures { text best.new ≡ picks (text best.old) (forms.xchg_forms width left right) }
 {
-    offer_rm(best, Row::Xchg(is_full(width)), width, number_of(right), left, 0);
+    offer_rm(
+        best,
+        Row::Xchg(is_full(width)),
+        width,
+        number_of(right),
+        left,
+        0,
+    );
     match width {
         Width::One => {}
         Width::Two | Width::Four => xchg_short(best, width, left, right),
@@ -161,7 +175,15 @@ pub(crate) fn xchg(best: &mut Text, width: Width, left: Rm, right: Reg)
 }
 
 /// Rows that widen a byte and a half.
-pub(crate) fn widen(best: &mut Text, byte: Row, half: Row, wide: Width, width: Width, to: Reg, from: Rm)
+pub(crate) fn widen(
+    best: &mut Text,
+    byte: Row,
+    half: Row,
+    wide: Width,
+    width: Width,
+    to: Reg,
+    from: Rm,
+)
     ensures { text best.new ≡ picks (text best.old) (forms.widen_forms byte half wide width to from) }
 {
     match (wide, width) {
