@@ -9,18 +9,6 @@ use crate::text::Text;
 use x86_grammar::{forms_are_right, spelled_fields_fit};
 use x86_types::{Instr, number_laws};
 
-/// What is picked of all forms, without the short jumps where `wide`.
-fn best_text(wide: bool, instr: Instr) -> Text
-    ensures { text result ≡ choice.picks choice.no_text (choice.forms_at wide instr) }
-{
-    let mut best = Text {
-        bytes: [0; 16],
-        len: 16,
-    };
-    offer_forms(&mut best, wide, instr);
-    best
-}
-
 fn copy(from: &Text, out: &mut [u8; 16])
     ensures front { take from.now.len out.new ≡ text from.now }
     ensures rest { drop from.now.len out.new ≡ drop from.now.len out.old }
@@ -30,8 +18,24 @@ fn copy(from: &Text, out: &mut [u8; 16])
     }
 }
 
+/// What is picked of all forms, without the short jumps where `wide`.
+fn put_best(wide: bool, instr: Instr, out: &mut [u8; 16]) -> usize
+    ensures front { take result out.new ≡ choice.picks choice.no_text (choice.forms_at wide instr) }
+    ensures within { result ≤ 16 }
+    ensures rest { drop result out.new ≡ drop result out.old }
+{
+    let mut best = Text {
+        bytes: [0; 16],
+        len: 16,
+    };
+    offer_forms(&mut best, wide, instr);
+    copy(&best, out);
+    best.len
+}
+
 /// Puts the instruction's shortest spelling, and of several as short the first in the order of bytes,
-/// at the front of `out`, and answers its length; the bytes behind it stay as they were.
+/// at the front of `out`, and answers how many bytes it has, 1 to 15; the bytes of `out` behind it stay
+/// as they were. Intel SDM volume 2, chapter 2 and the pages of its instructions.
 pub fn encode(instr: &Instr, out: &mut [u8; 16]) -> usize
     requires spelled { HasSpelling instr.now }
     ensures best { IsBest instr.now (take result out.new) }
@@ -41,12 +45,10 @@ pub fn encode(instr: &Instr, out: &mut [u8; 16]) -> usize
     spelled_fields_fit();
     forms_are_right();
     number_laws();
-    let best = best_text(false, *instr);
-    copy(&best, out);
-    best.len
+    put_best(false, *instr, out)
 }
 
-/// The same, with a displacement of four bytes in `Jmp` and `Jcc`, whose short forms are passed over.
+/// The same, with a displacement of four bytes in `Jmp` and `Jcc`: their short forms are passed over.
 pub fn encode_wide(instr: &Instr, out: &mut [u8; 16]) -> usize
     requires spelled { HasSpelling instr.now }
     ensures best { IsBestWide instr.now (take result out.new) }
@@ -56,7 +58,5 @@ pub fn encode_wide(instr: &Instr, out: &mut [u8; 16]) -> usize
     spelled_fields_fit();
     forms_are_right();
     number_laws();
-    let best = best_text(true, *instr);
-    copy(&best, out);
-    best.len
+    put_best(true, *instr, out)
 }

@@ -1,4 +1,4 @@
-use Rattle.std.proofs.Common.{ℕ, List, subst, sym, ◌∙◌, arith}
+use Rattle.std.proofs.Common.{ℕ, List, subst, sym, arith}
 use Rattle.x86_encode.specs.Best.{IsBestWide}
 use Rattle.x86_encode.proofs.Ordering.{front_short}
 use Rattle.x86_encode.proofs.Chosen.{Laws, best_wide_is}
@@ -9,9 +9,9 @@ returns-clause-best c =
     let i = c.args.instr.now in
     let laws : Laws = record { forms_right = c.forms_are_right.ensures.right; reg_again = c.number_laws.ensures.registers; number_again = c.number_laws.ensures.registers_back } in
     let ok = (c.spelled_fields_fit.ensures.fields i).1 c.requires.spelled in
-    subst (λ (t : List ℕ). IsBestWide i t) (sym (c.copy.ensures.front ∙ c.best_text-best.ensures)) (best_wide_is laws i ok c.requires.spelled)
+    subst (λ (t : List ℕ). IsBestWide i t) (sym c.put_best.ensures.front) (best_wide_is laws i ok c.requires.spelled)
 
 pub returns-clause-short : goal.returns-clause-short
 returns-clause-short c =
-    let long = c.copy.array_long in
-    front_short c.best_text-best.result.len c.copy.new.out (omega (arith, c.best_text-best.result.within)) (returns-clause-best c).spells.spells.short
+    let long = c.put_best.array_long in
+    front_short c.put_best.result c.put_best.new.out (omega (arith, c.put_best.ensures.within)) (returns-clause-best c).spells.spells.short
