@@ -28,7 +28,7 @@ use Rattle.x86_encode.proofs.BestForms.{form_is_best}
 use Rattle.x86_encode.proofs.Spelled.{form_short, form_spelled, form_is}
 
 -- one of the forms is picked
-picked : (fs : List Form) (g : Form) → In g fs → Picked (picks no_text fs) fs
+pub picked : (fs : List Form) (g : Form) → In g fs → Picked (picks no_text fs) fs
 picked fs g h =
     elim (picks_one no_text fs) [
       | inr p ↦ p

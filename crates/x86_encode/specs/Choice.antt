@@ -20,9 +20,12 @@ before a b = nat_lt (length a) (length b) || (length a == length b && before_by_
 abbrev pub lesser : List ℕ → List ℕ → List ℕ
 lesser a b = if before b a then b else a
 
+abbrev pub pick : List ℕ → Form → List ℕ
+pick a f = lesser a (form_best f)
+
 abbrev pub picks : List ℕ → List Form → List ℕ
 picks a [] = a
-picks a (f ∷ fs) = picks (lesser a (form_best f)) fs
+picks a (f ∷ fs) = picks (pick a f) fs
 
 -- sixteen bytes, longer than each spelling
 abbrev pub no_text : List ℕ

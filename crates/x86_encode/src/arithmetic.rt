@@ -70,6 +70,7 @@ fn alu_from_imm(best: &mut Text, op: AluOp, width: Width, to: Rm, value: u32)
     alu_byte(best, op, width, to, value);
 }
 
+/// ADD, OR, ADC, SBB, AND, SUB, XOR and CMP.
 pub(crate) fn alu(best: &mut Text, op: AluOp, width: Width, to: Rm, from: Src)
     ensures { text best.new ≡ picks (text best.old) (forms.alu_forms op width to from) }
 {
@@ -80,6 +81,7 @@ pub(crate) fn alu(best: &mut Text, op: AluOp, width: Width, to: Rm, from: Src)
     }
 }
 
+/// TEST.
 pub(crate) fn test(best: &mut Text, width: Width, left: Rm, right: Src)
     ensures { text best.new ≡ picks (text best.old) (forms.test_forms width left right) }
 {
@@ -104,6 +106,7 @@ pub(crate) fn to_reg(best: &mut Text, row: Row, width: Width, to: Reg, from: Rm)
     }
 }
 
+/// IMUL of three operands.
 pub(crate) fn imul_by(best: &mut Text, width: Width, to: Reg, from: Rm, by: u32)
     ensures { text best.new ≡ picks (text best.old) (forms.imul_by_forms width to from by) }
 {
@@ -118,6 +121,7 @@ pub(crate) fn imul_by(best: &mut Text, width: Width, to: Reg, from: Rm, by: u32)
     }
 }
 
+/// SHL, SHR, SAR, ROL and ROR.
 pub(crate) fn shift(best: &mut Text, op: ShiftOp, width: Width, to: Rm, count: Count)
     ensures { text best.new ≡ picks (text best.old) (forms.shift_forms op width to count) }
 {
@@ -141,7 +145,7 @@ pub(crate) fn shift(best: &mut Text, op: ShiftOp, width: Width, to: Rm, count: C
     }
 }
 
-/// A shift of two operands, by a constant or by Cl.
+/// SHLD and SHRD, by their rows for a constant and for Cl.
 pub(crate) fn double(best: &mut Text, imm: Row, cl: Row, to: Rm, from: Reg, count: Count)
     ensures { text best.new ≡ picks (text best.old) (forms.double_forms imm cl to from count) }
 {

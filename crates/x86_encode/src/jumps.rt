@@ -10,6 +10,7 @@ use crate::text::Text;
 use x86_grammar::Row;
 use x86_types::{Cond, Width};
 
+/// JMP, relative.
 pub(crate) fn jmp(best: &mut Text, wide: bool, by: u32)
     ensures { text best.new ≡ picks (text best.old) (forms_at wide (instr.Jmp by)) }
 {
@@ -19,6 +20,7 @@ pub(crate) fn jmp(best: &mut Text, wide: bool, by: u32)
     }
 }
 
+/// Jcc.
 pub(crate) fn jcc(best: &mut Text, wide: bool, cond: Cond, by: u32)
     ensures { text best.new ≡ picks (text best.old) (forms_at wide (instr.Jcc cond by)) }
 {
@@ -28,6 +30,7 @@ pub(crate) fn jcc(best: &mut Text, wide: bool, cond: Cond, by: u32)
     }
 }
 
+/// RET.
 pub(crate) fn ret(best: &mut Text, drop: u16)
     ensures { text best.new ≡ picks (text best.old) (forms.ret_forms drop) }
 {
@@ -41,6 +44,7 @@ pub(crate) fn ret(best: &mut Text, drop: u16)
     }
 }
 
+/// NOP.
 pub(crate) fn nop(best: &mut Text)
     ensures { text best.new ≡ picks (text best.old) (forms.forms instr.Nop) }
 {

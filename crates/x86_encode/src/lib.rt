@@ -5,6 +5,7 @@ mod arithmetic;
 mod encoder;
 mod forms;
 mod jumps;
+mod laws;
 mod moves;
 mod offer;
 mod operand;
@@ -17,3 +18,4 @@ mod text;
 mod units;
 
 pub use encoder::{encode, encode_wide};
+pub use laws::best_laws;

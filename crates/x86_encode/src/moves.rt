@@ -16,7 +16,8 @@ use x86_types::{Address, Reg, Rm, Src, Width};
 
 /// A row whose number is the address, where the address is a number alone.
 fn offer_number(best: &mut Text, at: Address, row: Row, width: Width)
-    ensures { text best.new ≡ picks (text best.old) (forms.number_only at.base at.index at.scale (parts.plain row width at.disp)) }
+    ensures { text best.new ≡ picks (text best.old)
+        (forms.number_only at.base at.index at.scale (parts.plain row width at.disp)) }
 {
     match (at.base, at.index) {
         (None, None) => {
@@ -91,6 +92,7 @@ fn mov_from_imm(best: &mut Text, width: Width, to: Rm, value: u32)
     }
 }
 
+/// MOV.
 pub(crate) fn mov(best: &mut Text, width: Width, to: Rm, from: Src)
     ensures { text best.new ≡ picks (text best.old) (forms.mov_forms width to from) }
 {
@@ -101,6 +103,7 @@ pub(crate) fn mov(best: &mut Text, width: Width, to: Rm, from: Src)
     }
 }
 
+/// LEA.
 pub(crate) fn lea(best: &mut Text, width: Width, to: Reg, at: Address)
     ensures { text best.new ≡ picks (text best.old) (forms.lea_forms width to at) }
 {
@@ -112,6 +115,7 @@ pub(crate) fn lea(best: &mut Text, width: Width, to: Reg, at: Address)
     }
 }
 
+/// PUSH.
 pub(crate) fn push(best: &mut Text, from: Src)
     ensures { text best.new ≡ picks (text best.old) (forms.push_forms from) }
 {
@@ -130,6 +134,7 @@ pub(crate) fn push(best: &mut Text, from: Src)
     }
 }
 
+/// POP.
 pub(crate) fn pop(best: &mut Text, to: Rm)
     ensures { text best.new ≡ picks (text best.old) (forms.forms (instr.Pop to)) }
 {
@@ -140,7 +145,8 @@ pub(crate) fn pop(best: &mut Text, to: Rm)
 }
 
 fn xchg_acc(best: &mut Text, width: Width, right: Reg)
-    ensures { text best.new ≡ picks (text best.old) (forms.other_reg right (parts.plain (row.XchgAcc right) width 0)) }
+    ensures { text best.new ≡ picks (text best.old)
+        (forms.other_reg right (parts.plain (row.XchgAcc right) width 0)) }
 {
     match right {
         Reg::Eax => {}
@@ -157,6 +163,7 @@ fn xchg_short(best: &mut Text, width: Width, left: Rm, right: Reg)
     }
 }
 
+/// XCHG.
 pub(crate) fn xchg(best: &mut Text, width: Width, left: Rm, right: Reg)
     ensures { text best.new ≡ picks (text best.old) (forms.xchg_forms width left right) }
 {
@@ -174,7 +181,7 @@ pub(crate) fn xchg(best: &mut Text, width: Width, left: Rm, right: Reg)
     }
 }
 
-/// Rows that widen a byte and a half.
+/// MOVZX and MOVSX, by their rows for a byte and for two.
 pub(crate) fn widen(
     best: &mut Text,
     byte: Row,

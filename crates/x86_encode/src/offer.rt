@@ -3,7 +3,7 @@ ghost use Rattle.x86_grammar.specs.Parts as parts;
 ghost use Rattle.x86_grammar.specs.Rows as rows;
 ghost use Rattle.x86_grammar.specs.Spells as spells;
 ghost use Rattle.x86_encode.specs.BestForm as spec;
-ghost use Rattle.x86_encode.specs.Choice as choice;
+ghost use Rattle.x86_encode.specs.Choice.{pick};
 ghost use Rattle.x86_encode.specs.Text.{text};
 
 use crate::operand::put_operand;
@@ -20,10 +20,10 @@ fn put_prefixes(out: &mut Text, half: bool, rep: bool)
     ensures len { out.new.len ≤ out.old.len + 2 }
 {
     if half {
-        put(out, 102);
+        put(out, 0x66);
     }
     if rep {
-        put(out, 243);
+        put(out, 0xF3);
     }
 }
 
@@ -36,7 +36,7 @@ fn put_opcode(out: &mut Text, key: u16)
     if key < 256 {
         put(out, key as u8);
     } else {
-        put(out, 15);
+        put(out, 0x0F);
         put(out, (key - 256) as u8);
     }
 }
@@ -67,7 +67,7 @@ fn text_of(form: Form) -> Text
 /// The form's best text, where it comes before what is there.
 pub(crate) fn offer(best: &mut Text, form: Form)
     requires middle { form.middle < 8 }
-    ensures text { text best.new ≡ choice.lesser (text best.old) (spec.form_best form) }
+    ensures text { text best.new ≡ pick (text best.old) form }
 {
     let next = text_of(form);
     if is_before(&next, best) {
@@ -78,7 +78,7 @@ pub(crate) fn offer(best: &mut Text, form: Form)
 /// A row with ModRM.
 pub(crate) fn offer_rm(best: &mut Text, row: Row, width: Width, middle: u8, rm: Rm, imm: u32)
     requires middle { middle < 8 }
-    ensures text { text best.new ≡ choice.lesser (text best.old) (spec.form_best (parts.with_rm row width middle rm imm)) }
+    ensures text { text best.new ≡ pick (text best.old) (parts.with_rm row width middle rm imm) }
 {
     offer(
         best,
@@ -95,7 +95,7 @@ pub(crate) fn offer_rm(best: &mut Text, row: Row, width: Width, middle: u8, rm: 
 
 /// A row that F3 may stand before.
 pub(crate) fn offer_repeated(best: &mut Text, row: Row, width: Width, rep: bool, imm: u32)
-    ensures text { text best.new ≡ choice.lesser (text best.old) (spec.form_best (parts.repeated row width rep imm)) }
+    ensures text { text best.new ≡ pick (text best.old) (parts.repeated row width rep imm) }
 {
     offer(
         best,
@@ -112,7 +112,7 @@ pub(crate) fn offer_repeated(best: &mut Text, row: Row, width: Width, rep: bool,
 
 /// A row with a number alone.
 pub(crate) fn offer_plain(best: &mut Text, row: Row, width: Width, imm: u32)
-    ensures text { text best.new ≡ choice.lesser (text best.old) (spec.form_best (parts.plain row width imm)) }
+    ensures text { text best.new ≡ pick (text best.old) (parts.plain row width imm) }
 {
     offer_repeated(best, row, width, false, imm);
 }

@@ -1,5 +1,5 @@
-// What is expected is written by hand, from the opcodes and tables of Intel SDM volume 2, and of the spellings of
-// one instruction that are as short the first in the order of bytes.
+// What is expected is written by hand, from the opcodes and tables of Intel SDM volume 2: the shortest
+// bytes, and of several as short the first in the order of bytes.
 mod instructions;
 
 use crate::{encode, encode_wide};

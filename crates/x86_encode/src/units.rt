@@ -38,6 +38,7 @@ fn dec_short(best: &mut Text, width: Width, to: Rm)
     }
 }
 
+/// INC.
 pub(crate) fn inc(best: &mut Text, width: Width, to: Rm)
     ensures { text best.new ≡ picks (text best.old) (forms.forms (instr.Inc width to)) }
 {
@@ -45,6 +46,7 @@ pub(crate) fn inc(best: &mut Text, width: Width, to: Rm)
     inc_short(best, width, to);
 }
 
+/// DEC.
 pub(crate) fn dec(best: &mut Text, width: Width, to: Rm)
     ensures { text best.new ≡ picks (text best.old) (forms.forms (instr.Dec width to)) }
 {
@@ -54,7 +56,8 @@ pub(crate) fn dec(best: &mut Text, width: Width, to: Rm)
 
 /// A row of widths Two and Four with nothing behind its opcode.
 pub(crate) fn alone(best: &mut Text, row: Row, width: Width)
-    ensures { text best.new ≡ picks (text best.old) (parts.not_one width (parts.plain row width 0 ∷ [])) }
+    ensures { text best.new ≡ picks (text best.old)
+        (parts.not_one width (parts.plain row width 0 ∷ [])) }
 {
     match width {
         Width::One => {}
