@@ -53,9 +53,6 @@ short_some len Never e = absurd cc
 
 -- ---- one of the three answers comes
 
-one_outside : (i : Instr) (n : ℕ) → Outside ≡ One i n → ⊥
-one_outside i n e = cc
-
 short_outside : Outside ≡ Short → ⊥
 short_outside e = cc
 
@@ -144,7 +141,7 @@ module _ (laws : ReadsRight) (bytes : List ℕ) (h : AreBytes bytes) where
 
   outside_is : decoded bytes ≡ Outside → IsOutside bytes
   outside_is e = record {
-    none = λ i len f. one_outside i len (sym e ∙ spells_one i len f);
+    none = λ i len f. never_one i len (sym e ∙ spells_one i len f);
     not_short = λ s. short_outside (sym e ∙ is_short s);
   }
 

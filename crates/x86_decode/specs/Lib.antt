@@ -1,3 +1,2 @@
 pub mod Decoding
 pub use Rattle.x86_grammar.specs.Fronts
-pub use Rattle.x86_grammar.specs.Reading

@@ -4,8 +4,8 @@ ghost use Rattle.x86_grammar.specs.Fronts.{FrontSpells, IsOutside, IsShort};
 ghost use Rattle.x86_grammar.specs.Reading as reading;
 ghost use Rattle.x86_types.specs.declared.instr.Instr.{Instr};
 
-use crate::reading::read_from;
-use x86_grammar::{Counts, Seen, reading_is_right};
+use crate::reading::read;
+use x86_grammar::{Seen, reading_is_right};
 use x86_types::Instr;
 
 /// What bytes begin with: an instruction and the number of its bytes, 1 to 15; nothing in the list;
@@ -22,13 +22,7 @@ fn judge(front: &[u8]) -> Decoded
     ensures { result ≡ spec.judge (length front.now) (reading.read front.now) }
 {
     reading_is_right();
-    let none = Counts {
-        halves: 0,
-        segments: 0,
-        hints: 0,
-        repeats: 0,
-    };
-    match read_from(none, front) {
+    match read(front) {
         Seen::Found(instr, left) => Decoded::One(instr, (front.len() - left) as u8),
         Seen::Needs(wanted) => {
             if wanted <= 15 - front.len() {

@@ -261,7 +261,7 @@ fn more(counts: Counts, byte: u8) -> Counts
 
 /// What is seen behind prefixes that are counted already; together they have to be countable.
 #[tactic(auto, unfolding(x86_grammar::specs::Reading::read_from))]
-pub(crate) fn read_from(counts: Counts, bytes: &[u8]) -> Seen
+fn read_from(counts: Counts, bytes: &[u8]) -> Seen
     requires halves { counts.halves + length bytes.now < 256 }
     requires segments { counts.segments + length bytes.now < 256 }
     requires hints { counts.hints + length bytes.now < 256 }
@@ -278,4 +278,18 @@ pub(crate) fn read_from(counts: Counts, bytes: &[u8]) -> Seen
             }
         }
     }
+}
+
+/// What is seen of the bytes, from left to right.
+pub(crate) fn read(bytes: &[u8]) -> Seen
+    requires few { length bytes.now < 256 }
+    ensures { result ≡ reading.read bytes.now }
+{
+    let none = Counts {
+        halves: 0,
+        segments: 0,
+        hints: 0,
+        repeats: 0,
+    };
+    read_from(none, bytes)
 }

@@ -1,8 +1,6 @@
 use crate::{Decoded, decode};
 use x86_types::{Address, AluOp, Instr, Reg, Rm, Src, Width};
 
-const NOP: Instr = Instr::Nop;
-
 /// Fronts that stop early, opcodes that say nothing, and prefixes up to fifteen bytes. Intel SDM
 /// volume 2, sections 2.1.1 and 2.3.11, appendix A, and the pages "LEA", "NOP" and "POP".
 #[test]
@@ -22,10 +20,10 @@ fn fronts_and_prefixes(rt: HostRuntime) {
             decode(&[
                 0x66, 0x66, 0x2E, 0x0F, 0x1F, 0x84, 0x00, 0x00, 0x00, 0x00, 0x00,
             ]),
-            Decoded::One(NOP, 11),
+            Decoded::One(Instr::Nop, 11),
         ),
         (decode(&halves), Decoded::Outside),
-        (decode(&halves[1..]), Decoded::One(NOP, 15)),
+        (decode(&halves[1..]), Decoded::One(Instr::Nop, 15)),
     ];
     for (answer, wanted) in rows {
         assert_eq!(rt; answer, wanted);
