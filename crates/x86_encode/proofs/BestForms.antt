@@ -36,12 +36,12 @@ mem_is a b e = cc
 no_mem : (a : Address) (r : Reg) → rm.Mem a ≡ rm.Reg r → ⊥
 no_mem a r e = cc
 
-go : (b : Bool) (p q m : Rm) → cond b p q ≡ m → ((b ≡ true) × (p ≡ m)) ⊎ ((b ≡ false) × (q ≡ m))
-go true p q m e = inl (refl, e)
-go false p q m e = inr (refl, e)
+if_cases : (b : Bool) (p q m : Rm) → cond b p q ≡ m → ((b ≡ true) × (p ≡ m)) ⊎ ((b ≡ false) × (q ≡ m))
+if_cases true p q m e = inl (refl, e)
+if_cases false p q m e = inr (refl, e)
 
 rm_cases : (o : Operand) (m : Rm) → rm_of o.m o.sib o.disp ≡ m → ((ltb o.m 192 ≡ true) × (rm.Mem (address o.m o.sib o.disp) ≡ m)) ⊎ ((ltb o.m 192 ≡ false) × (rm.Reg (reg_of (o.m % 8)) ≡ m))
-rm_cases o m e = go (ltb o.m 192) (rm.Mem (address o.m o.sib o.disp)) (rm.Reg (reg_of (o.m % 8))) m e
+rm_cases o m e = if_cases (ltb o.m 192) (rm.Mem (address o.m o.sib o.disp)) (rm.Reg (reg_of (o.m % 8))) m e
 
 module _ (reg_again : (n : ℕ) → n < 8 → number_of_reg (reg_of n) ≡ n) (o : Operand) (ok : IsOperand o) (n : ℕ) (mid : o.m / 8 % 8 ≡ n) where
   best_reg : (r : Reg) → rm_of o.m o.sib o.disp ≡ rm.Reg r → NotAfter ((192 + (8 * n + number_of_reg r)) ∷ []) (operand_bytes o)
@@ -70,39 +70,39 @@ module _ (reg_again : (n : ℕ) → n < 8 → number_of_reg (reg_of n) ≡ n) (o
 
 -- ---- prefixes
 
-two : (x y : ℕ) (a b c d : Bool) → eqb x 102 ≡ a → eqb y 102 ≡ b → eqb x 243 ≡ c → eqb y 243 ≡ d → one_if a + one_if b ≡ 1 → one_if c + one_if d ≡ 1 → NotAfter (102 ∷ 243 ∷ []) (x ∷ y ∷ [])
-two x y true true c d p q r s h k = absurd (omega arith)
-two x y false false c d p q r s h k = absurd (omega arith)
-two x y a b true true p q r s h k = absurd (omega arith)
-two x y a b false false p q r s h k = absurd (omega arith)
-two x y true false true false p q r s h k = let e = eqb-true x 102 p in let f = eqb-true x 243 r in absurd (omega arith)
-two x y false true false true p q r s h k = let e = eqb-true y 102 q in let f = eqb-true y 243 s in absurd (omega arith)
-two x y true false false true p q r s h k = inr (refl, inr (sym (eqb-true x 102 p), inr (sym (eqb-true y 243 s), tt)))
-two x y false true true false p q r s h k = let f = eqb-true x 243 r in inr (refl, inl (omega arith))
+two_prefixes : (x y : ℕ) (a b c d : Bool) → eqb x 102 ≡ a → eqb y 102 ≡ b → eqb x 243 ≡ c → eqb y 243 ≡ d → one_if a + one_if b ≡ 1 → one_if c + one_if d ≡ 1 → NotAfter (102 ∷ 243 ∷ []) (x ∷ y ∷ [])
+two_prefixes x y true true c d p q r s h k = absurd (omega arith)
+two_prefixes x y false false c d p q r s h k = absurd (omega arith)
+two_prefixes x y a b true true p q r s h k = absurd (omega arith)
+two_prefixes x y a b false false p q r s h k = absurd (omega arith)
+two_prefixes x y true false true false p q r s h k = let e = eqb-true x 102 p in let f = eqb-true x 243 r in absurd (omega arith)
+two_prefixes x y false true false true p q r s h k = let e = eqb-true y 102 q in let f = eqb-true y 243 s in absurd (omega arith)
+two_prefixes x y true false false true p q r s h k = inr (refl, inr (sym (eqb-true x 102 p), inr (sym (eqb-true y 243 s), tt)))
+two_prefixes x y false true true false p q r s h k = let f = eqb-true x 243 r in inr (refl, inl (omega arith))
 
-one : (x : ℕ) (a c can : Bool) → eqb x 102 ≡ a → eqb x 243 ≡ c → NotAfter (best_prefixes (eqb (0 + one_if a) 1 && can) (eqb (0 + one_if c) 1)) (x ∷ [])
-one x true true can p r = let e = eqb-true x 102 p in let f = eqb-true x 243 r in absurd (omega arith)
-one x true false true p r = inr (refl, inr (sym (eqb-true x 102 p), tt))
-one x true false false p r = inl (omega arith)
-one x false true can p r = inr (refl, inr (sym (eqb-true x 243 r), tt))
-one x false false can p r = inl (omega arith)
+one_prefix : (x : ℕ) (a c can : Bool) → eqb x 102 ≡ a → eqb x 243 ≡ c → NotAfter (best_prefixes (eqb (0 + one_if a) 1 && can) (eqb (0 + one_if c) 1)) (x ∷ [])
+one_prefix x true true can p r = let e = eqb-true x 102 p in let f = eqb-true x 243 r in absurd (omega arith)
+one_prefix x true false true p r = inr (refl, inr (sym (eqb-true x 102 p), tt))
+one_prefix x true false false p r = inl (omega arith)
+one_prefix x false true can p r = inr (refl, inr (sym (eqb-true x 243 r), tt))
+one_prefix x false false can p r = inl (omega arith)
 
-some : (h p : Bool) (x y : ℕ) (t : List ℕ) → (h ≡ true → p ≡ true → t ≡ [] → NotAfter (102 ∷ 243 ∷ []) (x ∷ y ∷ [])) → NotAfter (best_prefixes h p) (x ∷ y ∷ t)
-some false false x y t f = inl (omega arith)
-some true false x y t f = inl (omega arith)
-some false true x y t f = inl (omega arith)
-some true true x y [] f = f refl refl refl
-some true true x y (z ∷ t) f = inl (omega arith)
+more_prefixes : (h p : Bool) (x y : ℕ) (t : List ℕ) → (h ≡ true → p ≡ true → t ≡ [] → NotAfter (102 ∷ 243 ∷ []) (x ∷ y ∷ [])) → NotAfter (best_prefixes h p) (x ∷ y ∷ t)
+more_prefixes false false x y t f = inl (omega arith)
+more_prefixes true false x y t f = inl (omega arith)
+more_prefixes false true x y t f = inl (omega arith)
+more_prefixes true true x y [] f = f refl refl refl
+more_prefixes true true x y (z ∷ t) f = inl (omega arith)
 
 best_front : (can : Bool) (ps : List ℕ) → NotAfter (best_prefixes (eqb (counted no_counts ps).halves 1 && can) (eqb (counted no_counts ps).repeats 1)) ps
 best_front can [] = NotAfter-refl []
-best_front can (x ∷ []) = one x (eqb x 102) (eqb x 243) can refl refl
+best_front can (x ∷ []) = one_prefix x (eqb x 102) (eqb x 243) can refl refl
 best_front can (x ∷ y ∷ t) =
     let c : Counts = counted no_counts (x ∷ y ∷ t) in
-    some _ _ x y t (λ h p e.
+    more_prefixes _ _ x y t (λ h p e.
     let n = rw e at (eqb-true c.halves 1 (and_left (eqb c.halves 1) can h)) in
     let k = rw e at (eqb-true c.repeats 1 p) in
-    two x y _ _ _ _ refl refl refl refl (omega (arith, n)) (omega (arith, k)))
+    two_prefixes x y _ _ _ _ refl refl refl refl (omega (arith, n)) (omega (arith, k)))
 
 module _ (reg_again : (n : ℕ) → n < 8 → number_of_reg (reg_of n) ≡ n) (i : Instr) (x : Spelling) (ok : IsSpelling x i) where
   operand_best : (b : Bool) → has_operand x.form.row ≡ b → NotAfter (best_part b x.form.rm x.form.middle) (operand_part b x.operand)

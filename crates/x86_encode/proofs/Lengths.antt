@@ -1,5 +1,5 @@
 -- The best spelling is one, and how long a wide jump is.
-use Rattle.std.proofs.Common.{◌≡◌, ℕ, ◌+◌, ◌<◌, true, List, [], ◌∷◌, length, inl, inr, ◌⊎◌, refl, sym, ap, ◌∙◌, arith}
+use Rattle.std.proofs.Common.{◌≡◌, ℕ, true, List, [], ◌∷◌, length, inl, inr, ◌⊎◌, refl, sym, ap, ◌∙◌, arith}
 use Rattle.std.specs.Prelude.{◌↔◌}
 use Rattle.x86_types.specs.declared.instr.Instr.{Instr}
 use Rattle.x86_types.specs.declared.instr.Instr.TheVariants as instr
@@ -9,7 +9,6 @@ use Rattle.x86_types.specs.declared.width.Width.TheVariants.{Four}
 use Rattle.x86_grammar.specs.declared.row.Form.{Form}
 use Rattle.x86_grammar.specs.declared.row.Row.TheVariants as row
 use Rattle.x86_grammar.specs.Fields.{HasSpelling, fields_fit}
-use Rattle.x86_grammar.specs.Forms.{In}
 use Rattle.x86_grammar.specs.Parts.{plain}
 use Rattle.x86_encode.specs.Order.{BeforeByBytes, Before}
 use Rattle.x86_encode.specs.Best.{IsBest, IsBestWide}
