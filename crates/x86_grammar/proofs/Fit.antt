@@ -176,13 +176,13 @@ module _ {i : Instr} where
   has : (f : Form) → In f (forms i) → f.middle < 8 → f.imm < 256 ^ imm_size f.row f.half → IfSome f.rm (λ m. rm_fits m ≡ true) → HasForm i
   has f a b c d = record { form = f; among = a; low = b; number = c; rm = d }
 
-alu_low : (op : AluOp) → number_of_alu op < 8
+pub alu_low : (op : AluOp) → number_of_alu op < 8
 alu_low op = elim op as (λ op. number_of_alu op < 8) [ alu.Add ↦ lit< tt | _ ↦ lit< tt ]
 
-shift_low : (op : ShiftOp) → number_of_shift op < 8
+pub shift_low : (op : ShiftOp) → number_of_shift op < 8
 shift_low op = elim op as (λ op. number_of_shift op < 8) [ shift.Rol ↦ lit< tt | _ ↦ lit< tt ]
 
-sized : (w : Width) (v : ℕ) → number_fits w v ≡ true → v < 256 ^ wide_size (full_of w) (half_of w)
+pub sized : (w : Width) (v : ℕ) → number_fits w v ≡ true → v < 256 ^ wide_size (full_of w) (half_of w)
 sized One v h = ltb-true _ _ h
 sized Two v h = ltb-true _ _ h
 sized Four v h = ltb-true _ _ h

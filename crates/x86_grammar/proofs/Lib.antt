@@ -2,6 +2,7 @@ pub mod Again
 pub mod Among
 pub mod Bytes
 pub mod Fit
+pub mod FormsFit
 pub mod Front
 pub mod LittleEndian
 pub mod Map

@@ -1,5 +1,6 @@
 pub mod Attributes
 pub mod Fields
+pub mod FormLaws
 pub mod Forms
 pub mod Fronts
 pub mod Meaning

@@ -3,6 +3,7 @@
 
 mod attributes;
 mod fields;
+mod form_laws;
 mod group;
 mod opcode_map;
 mod reading;
@@ -10,6 +11,7 @@ mod row;
 mod spelling;
 
 pub use attributes::{can_half, half_in, has_operand, imm_size, key_of, prefixes_fit, width_of};
+pub use form_laws::forms_are_right;
 pub use group::member;
 pub use opcode_map::{ENTRIES, entry_at, opcode_map_is_right};
 pub use reading::{Seen, reading_is_right};

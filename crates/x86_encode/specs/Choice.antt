@@ -1,0 +1,42 @@
+-- The best of several forms, picked one by one.
+use Rattle.std.specs.Prelude.{ℕ, Bool, true, false, ◌&&◌, ◌||◌, nat_lt, ◌==◌, if◌then◌else◌, List, [], ◌∷◌, length, replicate}
+use Rattle.x86_types.specs.declared.instr.Instr.{Instr}
+use Rattle.x86_types.specs.declared.instr.Instr.TheVariants as instr
+use Rattle.x86_types.specs.declared.width.Width.TheVariants.{Four}
+use Rattle.x86_grammar.specs.declared.row.Form.{Form}
+use Rattle.x86_grammar.specs.declared.row.Row.TheVariants as row
+use Rattle.x86_grammar.specs.Forms.{forms}
+use Rattle.x86_grammar.specs.Parts.{plain, if_signed}
+use Rattle.x86_encode.specs.BestForm.{form_best}
+
+abbrev pub before_by_bytes : List ℕ → List ℕ → Bool
+before_by_bytes [] b = false
+before_by_bytes (x ∷ a) [] = false
+before_by_bytes (x ∷ a) (y ∷ b) = nat_lt x y || (x == y && before_by_bytes a b)
+
+abbrev pub before : List ℕ → List ℕ → Bool
+before a b = nat_lt (length a) (length b) || (length a == length b && before_by_bytes a b)
+
+abbrev pub lesser : List ℕ → List ℕ → List ℕ
+lesser a b = if before b a then b else a
+
+abbrev pub pick : List ℕ → Form → List ℕ
+pick a f = lesser a (form_best f)
+
+abbrev pub picks : List ℕ → List Form → List ℕ
+picks a [] = a
+picks a (f ∷ fs) = picks (pick a f) fs
+
+-- sixteen bytes, longer than each spelling
+abbrev pub no_text : List ℕ
+no_text = replicate 16 0
+
+abbrev pub unless : Bool → List Form → List Form
+unless true fs = []
+unless false fs = fs
+
+-- the forms, without the short jumps where it is true
+abbrev pub forms_at : Bool → Instr → List Form
+forms_at wide (instr.Jmp by) = plain row.JmpNear Four by ∷ unless wide (if_signed Four by (λ b. plain row.JmpShort Four b))
+forms_at wide (instr.Jcc c by) = plain (row.JccNear c) Four by ∷ unless wide (if_signed Four by (λ b. plain (row.JccShort c) Four b))
+forms_at wide i = forms i

@@ -1,0 +1,118 @@
+ghost use Rattle.std.specs.Prelude.{◌≡◌, ◌+◌, ◌<◌, ◌≤◌, ◌++◌, Some};
+ghost use Rattle.x86_grammar.specs.Parts as parts;
+ghost use Rattle.x86_grammar.specs.Rows as rows;
+ghost use Rattle.x86_grammar.specs.Spells as spells;
+ghost use Rattle.x86_encode.specs.BestForm as spec;
+ghost use Rattle.x86_encode.specs.Choice.{pick};
+ghost use Rattle.x86_encode.specs.Text.{text};
+
+use crate::operand::put_operand;
+use crate::order::is_before;
+use crate::parts::is_half;
+use crate::put::{empty, put, put_number};
+use crate::text::Text;
+use x86_grammar::{Form, Row, has_operand, imm_size, key_of};
+use x86_types::{Rm, Width};
+
+fn put_prefixes(out: &mut Text, half: bool, rep: bool)
+    requires room { out.old.len + 2 ≤ 16 }
+    ensures text { text out.new ≡ text out.old ++ spec.best_prefixes half rep }
+    ensures len { out.new.len ≤ out.old.len + 2 }
+{
+    if half {
+        put(out, 0x66);
+    }
+    if rep {
+        put(out, 0xF3);
+    }
+}
+
+fn put_opcode(out: &mut Text, key: u16)
+    requires key { key < 512 }
+    requires room { out.old.len + 2 ≤ 16 }
+    ensures text { text out.new ≡ text out.old ++ spells.opcode_bytes key }
+    ensures len { out.new.len ≤ out.old.len + 2 }
+{
+    if key < 256 {
+        put(out, key as u8);
+    } else {
+        put(out, 0x0F);
+        put(out, (key - 256) as u8);
+    }
+}
+
+fn put_part(out: &mut Text, row: Row, middle: u8, rm: Option<Rm>)
+    requires middle { middle < 8 }
+    requires room { out.old.len + 6 ≤ 16 }
+    ensures text { text out.new ≡ text out.old ++ spec.best_part (rows.has_operand row) rm middle }
+    ensures len { out.new.len ≤ out.old.len + 6 }
+{
+    if has_operand(row) {
+        put_operand(out, middle, rm);
+    }
+}
+
+fn text_of(form: Form) -> Text
+    requires middle { form.middle < 8 }
+    ensures text { text result ≡ spec.form_best form }
+{
+    let mut out = empty();
+    put_prefixes(&mut out, form.half, form.rep);
+    put_opcode(&mut out, key_of(form.row));
+    put_part(&mut out, form.row, form.middle, form.rm);
+    put_number(&mut out, imm_size(form.row, form.half), form.imm);
+    out
+}
+
+/// The form's best text, where it comes before what is there.
+pub(crate) fn offer(best: &mut Text, form: Form)
+    requires middle { form.middle < 8 }
+    ensures text { text best.new ≡ pick (text best.old) form }
+{
+    let next = text_of(form);
+    if is_before(&next, best) {
+        *best = next;
+    }
+}
+
+/// A row with ModRM.
+pub(crate) fn offer_rm(best: &mut Text, row: Row, width: Width, middle: u8, rm: Rm, imm: u32)
+    requires middle { middle < 8 }
+    ensures text { text best.new ≡ pick (text best.old) (parts.with_rm row width middle rm imm) }
+{
+    offer(
+        best,
+        Form {
+            row,
+            half: is_half(width),
+            rep: false,
+            middle,
+            rm: Some(rm),
+            imm,
+        },
+    );
+}
+
+/// A row that F3 may stand before.
+pub(crate) fn offer_repeated(best: &mut Text, row: Row, width: Width, rep: bool, imm: u32)
+    ensures text { text best.new ≡ pick (text best.old) (parts.repeated row width rep imm) }
+{
+    offer(
+        best,
+        Form {
+            row,
+            half: is_half(width),
+            rep,
+            middle: 0,
+            rm: None,
+            imm,
+        },
+    );
+}
+
+/// A row with a number alone.
+pub(crate) fn offer_plain(best: &mut Text, row: Row, width: Width, imm: u32)
+    ensures text { text best.new ≡ pick (text best.old) (parts.plain row width imm) }
+{
+    offer_repeated(best, row, width, false, imm);
+}

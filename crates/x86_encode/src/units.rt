@@ -1,0 +1,66 @@
+ghost use Rattle.std.specs.Prelude.{◌≡◌, ◌∷◌, []};
+ghost use Rattle.x86_types.specs.declared.instr.Instr.TheVariants as instr;
+ghost use Rattle.x86_grammar.specs.declared.row.Row.TheVariants as row;
+ghost use Rattle.x86_grammar.specs.Forms as forms;
+ghost use Rattle.x86_grammar.specs.Parts as parts;
+ghost use Rattle.x86_encode.specs.Choice.{picks};
+ghost use Rattle.x86_encode.specs.Text.{text};
+
+use crate::offer::{offer_plain, offer_rm};
+use crate::parts::is_full;
+use crate::text::Text;
+use x86_grammar::Row;
+use x86_types::{Rm, Width};
+
+fn inc_short(best: &mut Text, width: Width, to: Rm)
+    ensures { text best.new ≡ picks (text best.old) (forms.short_step row.IncReg width to) }
+{
+    match width {
+        Width::One => {}
+        Width::Two | Width::Four => {
+            if let Rm::Reg(reg) = to {
+                offer_plain(best, Row::IncReg(reg), width, 0);
+            }
+        }
+    }
+}
+
+fn dec_short(best: &mut Text, width: Width, to: Rm)
+    ensures { text best.new ≡ picks (text best.old) (forms.short_step row.DecReg width to) }
+{
+    match width {
+        Width::One => {}
+        Width::Two | Width::Four => {
+            if let Rm::Reg(reg) = to {
+                offer_plain(best, Row::DecReg(reg), width, 0);
+            }
+        }
+    }
+}
+
+/// INC.
+pub(crate) fn inc(best: &mut Text, width: Width, to: Rm)
+    ensures { text best.new ≡ picks (text best.old) (forms.forms (instr.Inc width to)) }
+{
+    offer_rm(best, Row::Inc(is_full(width)), width, 0, to, 0);
+    inc_short(best, width, to);
+}
+
+/// DEC.
+pub(crate) fn dec(best: &mut Text, width: Width, to: Rm)
+    ensures { text best.new ≡ picks (text best.old) (forms.forms (instr.Dec width to)) }
+{
+    offer_rm(best, Row::Dec(is_full(width)), width, 1, to, 0);
+    dec_short(best, width, to);
+}
+
+/// A row of widths Two and Four with nothing behind its opcode.
+pub(crate) fn alone(best: &mut Text, row: Row, width: Width)
+    ensures { text best.new ≡ picks (text best.old)
+        (parts.not_one width (parts.plain row width 0 ∷ [])) }
+{
+    match width {
+        Width::One => {}
+        Width::Two | Width::Four => offer_plain(best, row, width, 0),
+    }
+}
