@@ -1,26 +1,37 @@
-//! Reads lines of hexadecimal bytes and prints what each begins with: the length, the form's name and its fields,
-//! or `Outside`, `Short` or `not bytes`.
+//! Reads lines of hexadecimal bytes and prints what each begins with: the length, the form's name, its fields and its
+//! best spellings, or `Outside`, `Short` or `not bytes`.
 #![tactic(auto)]
 
 mod front;
 mod instr_text;
 mod line;
 mod operand_text;
+mod spelling;
+
+ghost use Rattle.x86_grammar.specs.Fields.{HasSpelling};
 
 use instr_text::InstrText;
 use line::Line;
+use spelling::Spelling;
 use std::io::{self, BufReader, BufWriter, Read, Write};
 use x86_decode::Decoded;
+use x86_types::Instr;
+
+fn print_instr<W: Write>(out: &mut W, instr: Instr, length: u8) -> io::Result<()>
+    requires spelled { HasSpelling instr }
+{
+    let text = InstrText(instr);
+    let best = Spelling::best(&instr);
+    let wide = Spelling::best_wide(&instr);
+    writeln!(out, "{length} {text} encode={best} wide={wide}")
+}
 
 fn print_line<W: Write>(out: &mut W, line: &Line) -> io::Result<()> {
     match line.decoded() {
         None => writeln!(out, "not bytes"),
         Some(Decoded::Outside) => writeln!(out, "Outside"),
         Some(Decoded::Short) => writeln!(out, "Short"),
-        Some(Decoded::One(instr, length)) => {
-            let text = InstrText(instr);
-            writeln!(out, "{length} {text}")
-        }
+        Some(Decoded::One(instr, length)) => print_instr(out, instr, length),
     }
 }
 

@@ -12,6 +12,7 @@ mod operand;
 mod order;
 mod parts;
 mod put;
+mod read_back;
 #[cfg(test)]
 mod tests;
 mod text;
@@ -19,3 +20,4 @@ mod units;
 
 pub use encoder::{encode, encode_wide};
 pub use laws::best_laws;
+pub use read_back::{round_trip, round_trip_wide};
