@@ -11,8 +11,8 @@ CRATE = os.path.dirname(HERE)
 LINES = [
     (b"", "Short"),
     (b"   ", "Short"),
-    (b"bb07000000", "5 Mov width=4 to=ebx from=0x00000007"),
-    (b"  Bb 07\t000000 \r", "5 Mov width=4 to=ebx from=0x00000007"),
+    (b"bb07000000", "5 Mov width=4 to=ebx from=0x00000007 encode=bb07000000 wide=bb07000000"),
+    (b"  Bb 07\t000000 \r", "5 Mov width=4 to=ebx from=0x00000007 encode=bb07000000 wide=bb07000000"),
     (b"9 0", "not bytes"),
     (b"B8 1", "not bytes"),
     (b"B", "not bytes"),
@@ -28,17 +28,27 @@ LINES = [
     (b"66" * 5000 + b"90", "Outside"),
     (b"90" + b" 82" * 5000 + b" 8", "not bytes"),
     # the last line has no end
-    (b"90", "1 Nop"),
+    (b"90", "1 Nop encode=90 wide=90"),
 ]
+
+
+def repeated(text):
+    return re.sub(r"([0-9A-F]{2})\*(\d+)", lambda m: " ".join([m.group(1)] * int(m.group(2))), text)
 
 
 def rows():
     with open(os.path.join(HERE, "rows.txt")) as file:
         for line in file:
-            if line.strip() and not line.startswith("#"):
-                text, expected = line.strip().split(" | ")
-                repeat = lambda m: " ".join([m.group(1)] * int(m.group(2)))
-                yield re.sub(r"([0-9A-F]{2})\*(\d+)", repeat, text).encode(), expected
+            if not line.strip() or line.startswith("#"):
+                continue
+            text, expected, *best = line.strip().split(" | ")
+            spelled = repeated(text)
+            length = expected.split()[0]
+            if length.isdigit():
+                best = best or [" ".join(spelled.split()[: int(length)])]
+                encode, wide = (words.replace(" ", "").lower() for words in (best[0], best[-1]))
+                expected += f" encode={encode} wide={wide}"
+            yield spelled.encode(), expected
 
 
 def main():

@@ -1,4 +1,4 @@
-use Rattle.std.proofs.Common.{◌≡◌, List, ℕ, Option, Some, None, take, refl}
+use Rattle.std.proofs.Common.{◌≡◌, List, ℕ, Option, Some, None, take, refl, subst}
 use Rattle.x86_types.specs.declared.instr.Instr.{Instr}
 use Rattle.x86_grammar.specs.Fields.{HasSpelling}
 use Rattle.x86_decode.specs.declared.decoding.Decoded.{Decoded}
@@ -15,4 +15,4 @@ spelled_by (Begun d) bytes i len says = absurd says
 spelled_by NotBytes bytes i len says = absurd says
 
 pub print_instr-requires : goal.print_instr-requires
-print_instr-requires g c = record { spelled = spelled_by c.args.line.now.seen c.args.line.now.front c.in-Some-One.instr c.in-Some-One.length c.in-Some-One.ensures }
+print_instr-requires g c = record { spelled = spelled_by c.args.line.now.seen c.args.line.now.front c.in-Some-One.instr c.in-Some-One.length (subst (λ (d : Decoded). Says c.args.line.now.seen c.args.line.now.front (Some d)) c.in-Some-One.field-0-is c.in-Some-One.ensures) }
