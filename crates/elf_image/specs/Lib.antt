@@ -1,4 +1,6 @@
+pub mod Extents
 pub mod Fields
+pub mod Overlaps
 pub mod Pages
 pub mod Refusals
 pub mod Names

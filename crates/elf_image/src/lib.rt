@@ -2,12 +2,17 @@
 //! (System V gABI, chapters 4 and 5; Intel386 supplement).
 #![tactic(auto)]
 
+mod extent;
 mod header;
 mod image;
+mod judge;
 mod laws;
+mod overlap;
+mod pages;
 mod perm;
 mod reader;
 mod refusal;
+mod table;
 #[cfg(test)]
 mod tests;
 
