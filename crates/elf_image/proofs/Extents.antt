@@ -37,7 +37,6 @@ pub least_twice : (hs : List ProgramHeader) (h : ProgramHeader) → 0 < length h
 least_twice [] h some is = absurd (omega arith)
 least_twice (k ∷ ks) h some is = rw is (twice (first_page k) (map first_page ks))
 
-
 pub pages_more : (hs : List ProgramHeader) (i : ℕ) (h : ProgramHeader) → i < length hs → h ≡ get_or hs i h
     → sum (map (λ k. end_page k - first_page k) (take (i + 1) hs)) ≡ sum (map (λ k. end_page k - first_page k) (take i hs)) + (end_page h - first_page h)
 pages_more hs i h within is =

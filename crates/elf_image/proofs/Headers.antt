@@ -1,5 +1,5 @@
 -- The table of headers, read from its beginning on.
-use Rattle.std.proofs.Common.{◌≡◌, ℕ, zero, suc, ◌+◌, ◌*◌, ◌∙◌, List, [], ◌∷◌, ◌++◌, ap, refl, arith, add-one}
+use Rattle.std.proofs.Common.{◌≡◌, ℕ, zero, suc, ◌+◌, ◌*◌, ◌∙◌, List, [], ◌∷◌, ◌++◌, length, ap, refl, arith, add-one}
 use Rattle.elf_image.specs.Fields.{header_at, headers_from}
 
 -- one header more
@@ -16,3 +16,8 @@ headers_more file at n = rw (add-one n) (headers_suc file at n)
 pub no_headers : (file : List ℕ) (at : ℕ) → headers_from file at 0 ≡ []
 unfolding headers_from
 no_headers file at = refl
+
+pub count_headers : (file : List ℕ) (at n : ℕ) → length (headers_from file at n) ≡ n
+unfolding headers_from
+count_headers file at zero = refl
+count_headers file at (suc n) = ap suc (count_headers file (at + 32) n)

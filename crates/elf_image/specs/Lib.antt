@@ -6,4 +6,5 @@ pub mod Refusals
 pub mod Names
 pub mod Image
 pub mod Plain
+pub mod Reads
 pub mod Rows

@@ -1,11 +1,16 @@
 // The tests of a file, in the order in which they are judged.
-ghost use Rattle.std.specs.Prelude.{◌≡◌, ◌+◌, ◌<◌, ◌≤◌, ◌^◌, length};
+ghost use Rattle.std.specs.Prelude.{◌≡◌, ◌+◌, ◌<◌, ◌≤◌, ◌^◌, true, length, IfOk, All};
 ghost use Rattle.std.specs.List.{list_any};
-ghost use Rattle.elf_image.specs.Refusals.{first, header_tests, room_end, room_span, room_size, is_dynamic, past_file, is_too_small, is_misaligned, is_forbidden, is_out_of_room, has_address};
+ghost use Rattle.elf_image.specs.Pages.{is_segment};
+ghost use Rattle.elf_image.specs.Refusals.{first, header_tests, segment_tests, room_end, room_span, room_size, is_dynamic, past_file, is_too_small, is_misaligned, is_forbidden, is_out_of_room, has_address};
 
+use crate::extent::{pages_size, span_of};
 use crate::header::{half, has_magic, word};
+use crate::overlap::any_shares_page;
 use crate::pages::{can_read, can_run, can_write, end_page, first_page};
+use crate::table::code_segments;
 use crate::{ProgramHeader, Refusal, Room};
+use std::alloc::{AllocError, Global};
 
 /// The first refusal of a file for its header, if there is one.
 pub(crate) fn header_refusal(bytes: &[u8]) -> Option<Refusal>
@@ -156,4 +161,47 @@ fn any_has_address(a: u32, code: &[ProgramHeader]) -> bool
     ensures { result ≡ list_any (has_address a) code.now }
 {
     code.iter().any(|h| has_address(a, *h))
+}
+
+/// The first refusal of an executable file of `n` bytes for its segments, if there is one. `at` is its entry.
+pub(crate) fn segment_refusal(
+    alloc: Global,
+    n: u64,
+    at: u32,
+    room: Room,
+    segments: &[ProgramHeader],
+) -> Result<Option<Refusal>, AllocError>
+    requires few { length segments.now < 2 ^ 16 }
+    requires loaded { All (λ h. is_segment h ≡ true) segments.now }
+    ensures { IfOk result (λ refusal. refusal ≡ first (segment_tests n at room segments.now)) }
+{
+    if any_past_file(n, segments) {
+        return Ok(Some(Refusal::SegmentFile));
+    }
+    if any_too_small(segments) {
+        return Ok(Some(Refusal::SegmentSize));
+    }
+    if any_misaligned(segments) {
+        return Ok(Some(Refusal::SegmentAlign));
+    }
+    if any_forbidden(segments) {
+        return Ok(Some(Refusal::Permission));
+    }
+    if any_out_of_room(room_end(room), segments) {
+        return Ok(Some(Refusal::Range));
+    }
+    if any_shares_page(alloc, segments)? {
+        return Ok(Some(Refusal::SharedPage));
+    }
+    let code = code_segments(alloc, segments)?;
+    if !any_has_address(at, code.as_slice()) {
+        return Ok(Some(Refusal::Entry));
+    }
+    if room_span(room) < span_of(code.as_slice()) {
+        return Ok(Some(Refusal::CodeSpan));
+    }
+    if room_size(room) < pages_size(segments) {
+        return Ok(Some(Refusal::ImageSize));
+    }
+    Ok(None)
 }

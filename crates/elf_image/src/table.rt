@@ -1,20 +1,20 @@
 // The table of program headers, and the segments among them.
-ghost use Rattle.std.specs.Prelude.{◌≡◌, ◌+◌, ◌*◌, ◌<◌, ◌≤◌, ◌^◌, length, filter, IfOk};
+ghost use Rattle.std.specs.Prelude.{◌≡◌, ◌+◌, ◌*◌, ◌<◌, ◌≤◌, ◌^◌, length, vec_len, filter, IfOk};
 ghost use Rattle.elf_image.specs.Fields.{headers_of, header_count, table_offset};
 ghost use Rattle.elf_image.specs.Pages.{is_segment};
 ghost use Rattle.elf_image.specs.Refusals.{can_run};
 
-use crate::ProgramHeader;
 use crate::header::{half, header_at, word};
-use crate::pages;
+use crate::{ProgramHeader, pages};
 use std::alloc::{AllocError, Global};
 
 /// All program headers of a file, in the order of its table.
-#[tactic(auto, using(crate::proofs::Headers::headers_more, crate::proofs::Headers::no_headers))]
+#[tactic(auto, using(crate::proofs::Headers::headers_more, crate::proofs::Headers::no_headers, crate::proofs::Headers::count_headers))]
 pub(crate) fn headers(alloc: Global, bytes: &[u8]) -> Result<Vec<ProgramHeader>, AllocError>
     requires long { 52 ≤ length bytes.now }
     requires fits { table_offset bytes.now + 32 * header_count bytes.now ≤ length bytes.now }
-    ensures { IfOk result (λ headers. headers.items ≡ headers_of bytes.now) }
+    ensures are { IfOk result (λ headers. headers.items ≡ headers_of bytes.now) }
+    ensures few { IfOk result (λ headers. vec_len headers < 2 ^ 16) }
 {
     let table = word(bytes, 28) as usize;
     let count = half(bytes, 44) as usize;
@@ -32,8 +32,12 @@ fn is_segment(h: ProgramHeader) -> bool
 }
 
 /// The headers that are segments.
-pub(crate) fn segments(alloc: Global, headers: &[ProgramHeader]) -> Result<Vec<ProgramHeader>, AllocError>
-    ensures { IfOk result (λ segments. segments.items ≡ filter is_segment headers.now) }
+pub(crate) fn segments(
+    alloc: Global,
+    headers: &[ProgramHeader],
+) -> Result<Vec<ProgramHeader>, AllocError>
+    ensures are { IfOk result (λ segments. segments.items ≡ filter is_segment headers.now) }
+    ensures few { IfOk result (λ segments. vec_len segments ≤ length headers.now) }
 {
     headers
         .iter()
@@ -43,7 +47,10 @@ pub(crate) fn segments(alloc: Global, headers: &[ProgramHeader]) -> Result<Vec<P
 }
 
 /// The segments that can be run.
-pub(crate) fn code_segments(alloc: Global, segments: &[ProgramHeader]) -> Result<Vec<ProgramHeader>, AllocError>
+pub(crate) fn code_segments(
+    alloc: Global,
+    segments: &[ProgramHeader],
+) -> Result<Vec<ProgramHeader>, AllocError>
     ensures { IfOk result (λ code. code.items ≡ filter can_run segments.now) }
 {
     segments

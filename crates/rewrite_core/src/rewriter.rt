@@ -3,7 +3,7 @@ ghost use Rattle.rewrite_core.specs.Rewrites.{Rewrites};
 
 use crate::lay::lay;
 use crate::layout::write_file;
-use elf_image::{ImageError, Refusal, Room, read_image};
+use elf_image::{ImageError, Refusal, Room, read_plain};
 use std::alloc::{AllocError, Global};
 use thiserror::Error;
 use x86_values::ByteList;
@@ -40,7 +40,7 @@ impl From<AllocError> for RewriteError {
 pub fn rewrite(alloc: Global, bytes: &[u8]) -> Result<Rewritten, RewriteError>
     ensures { Rewrites bytes.now result }
 {
-    let image = match read_image(alloc, bytes, Room::Source) {
+    let image = match read_plain(alloc, bytes, Room::Source) {
         Ok(image) => image,
         Err(ImageError::Refused(r)) => return Err(RewriteError::Refused(r)),
         Err(ImageError::Memory) => return Err(RewriteError::Memory),
