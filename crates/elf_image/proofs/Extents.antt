@@ -1,7 +1,7 @@
 -- Greatest, least and sum of numbers, one more at a time.
-use Rattle.std.proofs.Common.{◌≡◌, ℕ, ◌+◌, ◌-◌, ◌*◌, ◌<◌, ◌≤◌, ◌∙◌, max, min, List, [], ◌∷◌, ◌++◌, length, map, take, drop, get_or, sum, ap, refl, arith, sym}
-use Rattle.std.proofs.lemmas.List.{at_drop_more, at_drop_all, drop_more, drop_all, map_more}
-use Rattle.std.proofs.lemmas.List.Sums.{sum_by_more, sum-map, sum_by_push}
+use Rattle.std.proofs.Common.{◌≡◌, ℕ, ◌+◌, ◌-◌, ◌<◌, ◌≤◌, ◌∙◌, max, min, List, [], ◌∷◌, length, map, take, drop, get_or, sum, ap, refl, arith, sym}
+use Rattle.std.proofs.lemmas.List.{at_drop_more, at_drop_all}
+use Rattle.std.proofs.lemmas.List.Sums.{sum_by_more, sum-map}
 use Rattle.elf_image.specs.declared.header.ProgramHeader.{ProgramHeader}
 use Rattle.elf_image.specs.Pages.{first_page, end_page}
 use Rattle.elf_image.specs.Refusals.{greatest, least}

@@ -1,5 +1,5 @@
 -- A permission as a bit of a number, and as a quotient of it.
-use Rattle.std.proofs.Common.{◌≡◌, ℕ, ◌/◌, ◌%◌, ◌==◌, ◌*◌, arith, refl}
+use Rattle.std.proofs.Common.{◌≡◌, ℕ, ◌==◌, arith}
 use Rattle.std.proofs.lemmas.Nat.Bits.{and_pow}
 use Rattle.std.proofs.lemmas.Bool.Decides.{nat_tests}
 use Rattle.std.specs.Int.RustNames.{bit_and}

@@ -1,6 +1,6 @@
 -- Among ranges in order two share a page exactly where two neighbours do, and the order doesn't matter for the whole test.
 use Rattle.std.proofs.Common.{◌≡◌, ℕ, ◌+◌, ◌<◌, ◌≤◌, ◌∙◌, ◌&&◌, ◌||◌, Bool, true, false, cond, leb, ltb, max, List, [], ◌∷◌, length, drop, get_or, ap, refl, arith, sym}
-use Rattle.std.proofs.lemmas.Bool.{or_parts, or_from, and_from, and_left, and_right, and_cases, ltb-false, ltb-true, le-ltb, lt-ltb, false_from_ne_true, true_from_ne_false, and_parts, leb-true, le-leb, true≢false, cases_Bool}
+use Rattle.std.proofs.lemmas.Bool.{or_parts, or_from, ltb-false, le-ltb, false_from_ne_true}
 use Rattle.std.proofs.lemmas.Bool.Decides.{nat_tests}
 use Rattle.std.proofs.lemmas.List.{at_drop_more, at_drop_all}
 use Rattle.std.proofs.lemmas.List.Sums.{sum_by-cons}

@@ -1,8 +1,7 @@
 -- The bytes of a file's pages, as they are copied.
-use Rattle.std.proofs.Common.{◌≡◌, ℕ, zero, suc, ◌+◌, ◌-◌, ◌*◌, ◌/◌, ◌%◌, ◌≤◌, ◌∙◌, min, List, [], ◌∷◌, ◌++◌, length, take, drop, replicate, refl, sym, ap, arith, length-drop, length-take, length-append}
+use Rattle.std.proofs.Common.{◌≡◌, ℕ, zero, suc, ◌+◌, ◌-◌, ◌≤◌, ◌∙◌, min, List, [], ◌∷◌, ◌++◌, length, take, drop, replicate, refl, sym, ap, arith, length-take, length-append}
 use Rattle.std.proofs.lemmas.List.{drop_min, take_min, take_all, take_rest, take-take, take-replicate, length-replicate}
-use Rattle.elf_image.specs.declared.header.ProgramHeader.{ProgramHeader}
-use Rattle.elf_image.specs.Pages.{window, page_bytes, zeroed_from, first_page, file_end_page}
+use Rattle.elf_image.specs.Pages.{window, zeroed_from}
 
 -- what is there of n bytes, and zeros in the place of the others
 filled : (n m : ℕ) (xs : List ℕ) → n ≤ m → take n (xs ++ replicate m 0) ≡ take n xs ++ replicate (n - length xs) 0

@@ -22,6 +22,6 @@ pub use header::ProgramHeader;
 pub use image::{Image, Segment, SegmentList};
 pub use laws::{image_laws, worked_images};
 pub use perm::Perm;
-pub use plain::{is_plain, read_plain};
+pub use plain::is_plain;
 pub use reader::read_image;
 pub use refusal::{ImageError, Refusal, Room};
