@@ -1,2 +1,9 @@
+pub mod Extents
+pub mod Headers
+pub mod Permissions
 pub mod PlainForm
+pub mod Reading
+pub mod Rooms
 pub mod Rows
+pub mod SharedPages
+pub mod Windows

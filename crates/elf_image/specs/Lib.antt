@@ -1,7 +1,10 @@
+pub mod Extents
 pub mod Fields
+pub mod Overlaps
 pub mod Pages
 pub mod Refusals
 pub mod Names
 pub mod Image
 pub mod Plain
+pub mod Reads
 pub mod Rows

@@ -1,15 +1,10 @@
--- The plain form: the one file layout that the reader takes so far. (own)
-use Rattle.std.specs.Prelude.{◌≡◌, ℕ, ◌==◌, ◌&&◌, Bool, true, not, leb, ltb, List, [], ◌∷◌, length, take, drop, Some, None, Result, Ok, Err, slice_index}
+-- The plain form: the one file layout that is rewritten so far. (own)
+use Rattle.std.specs.Prelude.{◌≡◌, ℕ, ◌==◌, ◌&&◌, Bool, true, leb, List, [], ◌∷◌, length, take, drop, Ok, slice_index}
 use Rattle.elf_image.specs.declared.header.ProgramHeader.{ProgramHeader}
 use Rattle.elf_image.specs.declared.image.Segment.{Segment}
 use Rattle.elf_image.specs.declared.image.Image.{Image}
 use Rattle.elf_image.specs.declared.refusal.Room.{Room}
-use Rattle.elf_image.specs.declared.refusal.Refusal.{Refusal}
-use Rattle.elf_image.specs.declared.refusal.Refusal.TheVariants.{Short, Magic, NotYet}
-use Rattle.elf_image.specs.declared.refusal.ImageError.{ImageError}
-use Rattle.elf_image.specs.declared.refusal.ImageError.TheVariants.{Refused, Memory}
 use Rattle.elf_image.specs.Fields.{has_magic, file_kind, machine, entry, table_offset, header_size, header_count, header_at}
-use Rattle.elf_image.specs.Refusals.{first}
 use Rattle.elf_image.specs.Image.{image_of}
 
 -- an ELF32 executable for the i386 whose two program headers stand at 52, its entry being the first byte of its code
@@ -42,16 +37,10 @@ room_segment = record { start = 0x0804A000; size = 4096; perm = record { 0 = 6 }
 abbrev pub plain_image : List ℕ → Image
 plain_image file = record { segments = text_segment file ∷ room_segment ∷ []; entry = 0x08049000 }
 
--- the first of the refusals of a reader that takes the plain form alone
-abbrev pub plain_tests : List ℕ → List (Bool × Refusal)
-plain_tests file = (ltb (length file) 52, Short) ∷ (not (has_magic file), Magic) ∷ (not (is_plain file), NotYet) ∷ []
-
--- the image is the definition's and plain, and each refusal is the first that holds
-abbrev pub ReadsPlain : List ℕ → Room → Result Image ImageError → Type 0
-ReadsPlain file room (Ok image) = (first (plain_tests file) ≡ None) × (image_of file room ≡ Ok image) × (image ≡ plain_image file)
-ReadsPlain file room (Err (Refused r)) = first (plain_tests file) ≡ Some r
-ReadsPlain file room (Err Memory) = Unit {0}
-
 -- a plain file is accepted in either room
 abbrev pub PlainIsAccepted : Type 0
 PlainIsAccepted = (file : List ℕ) (room : Room) → has_magic file ≡ true → is_plain file ≡ true → image_of file room ≡ Ok (plain_image file)
+
+-- a plain file that is accepted has the magic, and its image is the plain one
+abbrev pub PlainIsRead : Type 0
+PlainIsRead = (file : List ℕ) (room : Room) (image : Image) → image_of file room ≡ Ok image → is_plain file ≡ true → (has_magic file ≡ true) × (image ≡ plain_image file)

@@ -1,9 +1,10 @@
-ghost use Rattle.elf_image.specs.Plain.{PlainIsAccepted};
+ghost use Rattle.elf_image.specs.Plain.{PlainIsAccepted, PlainIsRead};
 ghost use Rattle.elf_image.specs.Rows.{EmptyFile, MagicAlone, SevenFile, WritableCode, LinkedFile};
 
-/// Does nothing: its clause is the law by which the reader of the plain form agrees with the definition of an image.
+/// Does nothing: its clauses are the laws by which the plain form agrees with the definition of an image.
 pub fn image_laws()
     ensures plain_is_accepted { PlainIsAccepted }
+    ensures plain_is_read { PlainIsRead }
 {}
 
 /// Does nothing: its clauses say what the definition of an image makes of files that are written out.

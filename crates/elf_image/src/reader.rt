@@ -1,101 +1,34 @@
-// The reader of the plain form.
-ghost use Rattle.std.specs.Prelude.{◌≡◌, ◌≤◌, length, IfOk};
-ghost use Rattle.elf_image.specs.Plain.{ReadsPlain, has_plain_header, is_plain_text, is_plain_room, is_plain, plain_image};
+// The reader of an executable file.
+ghost use Rattle.elf_image.specs.Reads.{Reads};
 
-use crate::header::{half, has_magic, header_at, word};
-use crate::{Image, ImageError, Perm, ProgramHeader, Refusal, Room, Segment, SegmentList};
-use bitflags::Flags;
-use std::alloc::{AllocError, Global};
-use x86_values::ByteList;
+use crate::header::word;
+use crate::judge::{any_dynamic, header_refusal, segment_refusal};
+use crate::segment::segments_of;
+use crate::table::{headers, segments};
+use crate::{Image, ImageError, Refusal, Room, SegmentList};
+use std::alloc::Global;
 
-/// Reads the image of a file. So far it takes the plain form alone: a file that has at least 52 bytes and the magic, and
-/// isn't plain, is `NotYet`. `room` says where the pages may lie; a plain file is accepted in either. A refusal takes no
-/// memory.
-#[tactic(auto, using(crate::proofs::PlainForm::plain_length))]
+/// Reads the image of a file, whose pages may lie in this room (gABI, "Program Loading"). A refusal is the first that
+/// holds; one for the file's header takes no memory.
 pub fn read_image(alloc: Global, bytes: &[u8], room: Room) -> Result<Image, ImageError>
-    ensures { ReadsPlain bytes.now room result }
+    ensures { Reads bytes.now room result }
 {
-    let _ = room;
-    if bytes.len() < 52 {
-        return Err(ImageError::Refused(Refusal::Short));
+    if let Some(refusal) = header_refusal(bytes) {
+        return Err(ImageError::Refused(refusal));
     }
-    if !has_magic(bytes) {
-        return Err(ImageError::Refused(Refusal::Magic));
+    let headers = headers(alloc, bytes)?;
+    if any_dynamic(headers.as_slice()) {
+        return Err(ImageError::Refused(Refusal::Dynamic));
     }
-    if !is_plain(bytes) {
-        return Err(ImageError::Refused(Refusal::NotYet));
+    let entry = word(bytes, 24);
+    let loaded = segments(alloc, headers.as_slice())?;
+    let judged = segment_refusal(alloc, bytes.len() as u64, entry, room, loaded.as_slice())?;
+    if let Some(refusal) = judged {
+        return Err(ImageError::Refused(refusal));
     }
-    let image = plain_image(alloc, bytes)?;
-    Ok(image)
-}
-
-#[tactic(auto, unfolding(crate::specs::Plain::is_plain))]
-fn is_plain(bytes: &[u8]) -> bool
-    ensures { result ≡ is_plain bytes.now }
-{
-    bytes.len() == 8192
-        && has_plain_header(bytes)
-        && is_plain_text(header_at(bytes, 52))
-        && is_plain_room(header_at(bytes, 84))
-}
-
-fn has_plain_header(bytes: &[u8]) -> bool
-    requires { 52 ≤ length bytes.now }
-    ensures { result ≡ has_plain_header bytes.now }
-{
-    bytes[4] == 1
-        && bytes[5] == 1
-        && bytes[6] == 1
-        && half(bytes, 16) == 2
-        && half(bytes, 18) == 3
-        && word(bytes, 24) == 0x08049000
-        && word(bytes, 28) == 52
-        && half(bytes, 42) == 32
-        && half(bytes, 44) == 2
-}
-
-fn is_plain_text(h: ProgramHeader) -> bool
-    ensures { result ≡ is_plain_text h }
-{
-    h.kind == 1
-        && h.offset == 0x1000
-        && h.address == 0x08049000
-        && h.file_size == h.memory_size
-        && 1 <= h.file_size
-        && h.file_size <= 4096
-        && h.flags == 5
-}
-
-fn is_plain_room(h: ProgramHeader) -> bool
-    ensures { result ≡ is_plain_room h }
-{
-    h.kind == 1
-        && h.offset == 0x2000
-        && h.address == 0x0804A000
-        && h.file_size == 0
-        && h.memory_size == 4096
-        && h.flags == 6
-}
-
-fn plain_image(alloc: Global, bytes: &[u8]) -> Result<Image, AllocError>
-    requires { 8192 ≤ length bytes.now }
-    ensures { IfOk result (λ image. image ≡ plain_image bytes.now) }
-{
-    let text = Segment {
-        start: 0x08049000,
-        size: 4096,
-        perm: Perm::R.union(Perm::X),
-        bytes: ByteList::new(Vec::from_slice(alloc, &bytes[4096..8192])?),
-    };
-    let room = Segment {
-        start: 0x0804A000,
-        size: 4096,
-        perm: Perm::R.union(Perm::W),
-        bytes: ByteList::new(Vec::new(alloc)),
-    };
-    let segments = Vec::from_array(alloc, [text, room])?;
+    let segments = segments_of(alloc, bytes, loaded.as_slice())?;
     Ok(Image {
         segments: SegmentList::new(segments),
-        entry: 0x08049000,
+        entry,
     })
 }

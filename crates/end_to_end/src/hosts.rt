@@ -125,18 +125,23 @@ pub fn nothing_stored<'a>(end: End, from: &'a [u8], line: &'a [u8]) -> Left<'a> 
     }
 }
 
-// The file is refused with this line, and nothing is stored.
+// The line of a refusal.
+fn line_of_refusal(alloc: Global, refusal: Refusal) -> Result<String, AllocError> {
+    format!(in alloc; "sw: refused {refusal:?}")
+}
+
+// The file is refused, its line is said, and nothing is stored.
 pub fn expect_refusal(
     rt: &impl Abort,
     alloc: Global,
     name: &str,
     from: &[u8],
     refusal: Refusal,
-    line: &[u8],
 ) -> Result<(), Fail> {
     let words = REWRITE;
     let failing = [0, 0];
-    let left = nothing_stored(End::Refused(refusal), from, line);
+    let line = line_of_refusal(alloc, refusal)?;
+    let left = nothing_stored(End::Refused(refusal), from, line.as_bytes());
     let call = Call {
         words,
         from,
@@ -156,7 +161,7 @@ pub fn expect_answer(
     assert!(rt; text.len() <= 4096, "{name}");
     let file = file_of(alloc, text)?;
     let Some(code) = code else {
-        return expect_refusal(rt, alloc, name, file.as_slice(), Refusal::NotYet, NOT_YET);
+        return expect_refusal(rt, alloc, name, file.as_slice(), Refusal::NotYet);
     };
     assert!(rt; code.len() <= 8192, "{name}");
     expect_code(rt, alloc, name, file.as_slice(), code)

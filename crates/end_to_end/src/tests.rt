@@ -71,7 +71,6 @@ fn takes_straight_code(rt: HostRuntime) -> Result<(), Fail> {
         // the zeros after the text complete the move, and the next place begins with 0
         ("the text ends in a move", b"\xB8\x01", None),
         ("the text ends after a call", b"\xCD\x80", None),
-        ("no text", b"", None),
     ] {
         expect_answer(&rt, alloc, name, text, code)?;
     }
@@ -177,70 +176,91 @@ fn takes_a_whole_page(rt: HostRuntime) -> Result<(), Fail> {
 #[test]
 fn refuses_other_files(rt: HostRuntime) -> Result<(), Fail> {
     let alloc = rt.alloc();
-    let short = b"sw: refused Short".as_slice();
-    let magic = b"sw: refused Magic".as_slice();
-    for (name, first, size, refusal, line) in [
-        ("empty", 0x7F, 0, Refusal::Short, short),
-        ("51 bytes", 0x7F, 51, Refusal::Short, short),
-        ("51 bytes, no magic", 0, 51, Refusal::Short, short),
-        ("52 bytes, no magic", 0, 52, Refusal::Magic, magic),
-        ("52 bytes", 0x7F, 52, Refusal::NotYet, NOT_YET),
-        ("8191 bytes", 0x7F, 8191, Refusal::NotYet, NOT_YET),
-        ("8192 bytes, no magic", 0, 8192, Refusal::Magic, magic),
-        ("8193 bytes", 0x7F, 8193, Refusal::NotYet, NOT_YET),
-        ("16384 bytes", 0x7F, 16384, Refusal::NotYet, NOT_YET),
+    for (name, first, size, refusal) in [
+        ("empty", 0x7F, 0, Refusal::Short),
+        ("51 bytes", 0x7F, 51, Refusal::Short),
+        ("51 bytes, no magic", 0, 51, Refusal::Short),
+        ("52 bytes, no magic", 0, 52, Refusal::Magic),
+        ("52 bytes", 0x7F, 52, Refusal::HeaderTable),
+        ("115 bytes", 0x7F, 115, Refusal::HeaderTable),
+        ("116 bytes", 0x7F, 116, Refusal::SegmentFile),
+        ("8191 bytes", 0x7F, 8191, Refusal::SegmentFile),
+        ("8192 bytes, no magic", 0, 8192, Refusal::Magic),
+        ("8193 bytes", 0x7F, 8193, Refusal::NotYet),
+        ("16384 bytes", 0x7F, 16384, Refusal::NotYet),
     ] {
         let mut file = file_of(alloc, EXIT_SEVEN)?;
         file[0] = first;
         file.resize(size, 0)?;
-        expect_refusal(&rt, alloc, name, file.as_slice(), refusal, line)?;
+        expect_refusal(&rt, alloc, name, file.as_slice(), refusal)?;
     }
+    let no_text = file_of(alloc, b"")?;
+    expect_refusal(&rt, alloc, "no text", no_text.as_slice(), Refusal::Entry)?;
+    let mut magic = [0; 52];
+    magic[..4].copy_from_slice(b"\x7FELF");
+    expect_refusal(&rt, alloc, "the magic and zeros", &magic, Refusal::Class)?;
     let zeros = [0; 52];
-    expect_refusal(&rt, alloc, "52 zeros", &zeros, Refusal::Magic, magic)
+    expect_refusal(&rt, alloc, "52 zeros", &zeros, Refusal::Magic)
 }
 
-// Fields of the headers: the byte that is changed, and whether the file is still plain.
+// Fields of the headers: the byte that is changed, and what the file is refused for then, if it isn't plain any more.
 #[test]
 fn reads_each_field(rt: HostRuntime) -> Result<(), Fail> {
     let alloc = rt.alloc();
-    for (name, at, byte, is_plain) in [
-        ("class", 4, 2, false),
-        ("order", 5, 2, false),
-        ("version", 6, 0, false),
-        ("system", 7, 3, true),
-        ("kind", 16, 3, false),
-        ("kind, high byte", 17, 1, false),
-        ("machine", 18, 62, false),
-        ("entry", 24, 5, false),
-        ("header table", 28, 53, false),
-        ("section table", 32, 1, true),
-        ("flags", 36, 1, true),
-        ("size of a header", 42, 40, false),
-        ("number of headers", 44, 1, false),
-        ("code: kind", 52, 2, false),
-        ("code: offset", 57, 0, false),
-        ("code: address", 61, 0x80, false),
-        ("code: physical address", 65, 0x80, true),
-        ("code: file size", 68, 12, false),
-        ("code: memory size", 72, 14, false),
-        ("code: flags", 76, 7, false),
-        ("code: alignment", 81, 0x20, true),
-        ("room: kind", 84, 0, false),
-        ("room: offset", 89, 0x10, false),
-        ("room: address", 93, 0xB0, false),
-        ("room: file size", 100, 1, false),
-        ("room: memory size", 105, 0x20, false),
-        ("room: flags", 108, 7, false),
-        ("between headers and code", 4095, 1, true),
-        ("after the code", 8191, 1, true),
+    for (name, at, byte, refusal) in [
+        ("class", 4, 2, Some(Refusal::Class)),
+        ("order", 5, 2, Some(Refusal::Order)),
+        ("version", 6, 0, Some(Refusal::Version)),
+        ("system", 7, 3, None),
+        ("kind", 16, 3, Some(Refusal::Kind)),
+        ("kind, high byte", 17, 1, Some(Refusal::Kind)),
+        ("machine", 18, 62, Some(Refusal::Machine)),
+        ("entry", 24, 5, Some(Refusal::NotYet)),
+        ("entry, second byte", 25, 0xA0, Some(Refusal::Entry)),
+        ("header table", 28, 53, Some(Refusal::Entry)),
+        ("section table", 32, 1, None),
+        ("flags", 36, 1, None),
+        ("size of a header", 42, 40, Some(Refusal::HeaderSize)),
+        ("number of headers", 44, 1, Some(Refusal::NotYet)),
+        (
+            "number of headers, high byte",
+            45,
+            1,
+            Some(Refusal::HeaderTable),
+        ),
+        ("code: kind", 52, 2, Some(Refusal::Dynamic)),
+        ("code: offset", 57, 0, Some(Refusal::NotYet)),
+        ("code: offset, low byte", 56, 1, Some(Refusal::SegmentAlign)),
+        ("code: address", 61, 0x80, Some(Refusal::Entry)),
+        ("code: address, high byte", 63, 0x50, Some(Refusal::Range)),
+        ("code: physical address", 65, 0x80, None),
+        ("code: file size", 68, 12, Some(Refusal::NotYet)),
+        ("code: memory size", 72, 14, Some(Refusal::NotYet)),
+        ("code: less memory", 72, 12, Some(Refusal::SegmentSize)),
+        ("code: flags", 76, 7, Some(Refusal::Permission)),
+        ("code: alignment", 81, 0x20, None),
+        ("room: kind", 84, 0, Some(Refusal::NotYet)),
+        ("room: offset", 89, 0x10, Some(Refusal::NotYet)),
+        ("room: address", 93, 0xB0, Some(Refusal::NotYet)),
+        (
+            "room: the code's address",
+            93,
+            0x90,
+            Some(Refusal::SharedPage),
+        ),
+        ("room: file size", 100, 1, Some(Refusal::SegmentFile)),
+        ("room: memory size", 105, 0x20, Some(Refusal::NotYet)),
+        ("room: all memory", 107, 4, Some(Refusal::ImageSize)),
+        ("room: flags", 108, 7, Some(Refusal::Permission)),
+        ("between headers and code", 4095, 1, None),
+        ("after the code", 8191, 1, None),
     ] {
         assert!(rt; at < 8192);
         let mut file = file_of(alloc, EXIT_SEVEN)?;
         file[at] = byte;
-        if is_plain {
-            expect_code(&rt, alloc, name, file.as_slice(), NEW_EXIT_SEVEN)?;
-        } else {
-            expect_refusal(&rt, alloc, name, file.as_slice(), Refusal::NotYet, NOT_YET)?;
+        match refusal {
+            None => expect_code(&rt, alloc, name, file.as_slice(), NEW_EXIT_SEVEN)?,
+            Some(refusal) => expect_refusal(&rt, alloc, name, file.as_slice(), refusal)?,
         }
     }
     let mut longer = file_of(alloc, EXIT_SEVEN)?;
@@ -251,8 +271,7 @@ fn reads_each_field(rt: HostRuntime) -> Result<(), Fail> {
         alloc,
         "over a page",
         longer.as_slice(),
-        Refusal::NotYet,
-        NOT_YET,
+        Refusal::SegmentFile,
     )
 }
 

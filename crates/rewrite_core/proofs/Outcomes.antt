@@ -1,24 +1,25 @@
 -- What the reading of a file and its new code say of its rewriting.
-use Rattle.std.proofs.Common.{◌≡◌, ℕ, ◌≤◌, ◌==◌, ◌&&◌, Bool, true, false, not, cond, ltb, List, length, drop, get_or, min, Option, Some, None, refl, ◌∙◌, inl, inr, arith, length-drop, length-take}
-use Rattle.std.proofs.lemmas.Bool.{ltb-false}
+use Rattle.std.proofs.Common.{◌≡◌, ℕ, ◌==◌, ◌&&◌, Bool, true, false, List, length, drop, get_or, min, Option, Some, None, Ok, Err, refl, sym, ◌∙◌, inl, inr, arith, length-drop, length-take}
+use Rattle.std.proofs.lemmas.Bool.{true≢false}
 use Rattle.std.proofs.lemmas.Bool.Decides.{eqb_tells}
 use Rattle.elf_image.specs.declared.image.Image.{Image}
 use Rattle.elf_image.specs.declared.image.Segment.{Segment}
 use Rattle.elf_image.specs.declared.refusal.Refusal.{Refusal}
-use Rattle.elf_image.specs.declared.refusal.Refusal.TheVariants.{Short, Magic, NotYet}
+use Rattle.elf_image.specs.declared.refusal.Refusal.TheVariants.{NotYet}
+use Rattle.elf_image.specs.declared.refusal.Room.TheVariants.{Source}
 use Rattle.elf_image.specs.Fields.{has_magic}
-use Rattle.elf_image.specs.Refusals.{first}
-use Rattle.elf_image.specs.Plain.{is_plain, plain_tests, plain_image}
+use Rattle.elf_image.specs.Refusals.{refusal_of}
+use Rattle.elf_image.specs.Image.{image_of, image_if}
+use Rattle.elf_image.specs.Plain.{is_plain, plain_image}
 use Rattle.rewrite_core.specs.Met.{IsRewritable}
 use Rattle.rewrite_core.specs.Places.{IsLeftOut, IsLaid}
 use Rattle.rewrite_core.specs.Layout.{text_of}
-use Rattle.rewrite_core.specs.Rewrites.{IsRefused}
+use Rattle.rewrite_core.specs.Rewrites.{IsRefused, by_image, not_yet}
 use Rattle.rewrite_core.proofs.MetPlaces.{laid_is_taken, left_out_is_not_taken}
 use Rattle.rewrite_core.proofs.PlainPage.{plain_page}
 
 -- a file that the reader takes
 pub record IsPlainFile (file : List ℕ) : Type 0 where
-  pub long : 52 ≤ length file
   pub magic : has_magic file ≡ true
   pub plain : is_plain file ≡ true
   pub whole : length (text_of file) ≡ 4096
@@ -37,29 +38,35 @@ plain_length file e = is_length _ _ (left _ _ (left _ _ (left _ _ e)))
 whole_text : (file : List ℕ) → length file ≡ 8192 → length (text_of file) ≡ 4096
 whole_text file e = let m : min 4096 (length (drop 4096 file)) ≡ 4096 = omega (arith, length-drop 4096 file, e) in length-take 4096 (drop 4096 file) ∙ m
 
--- the answers of three tests in order
-abbrev chosen : Bool → Bool → Bool → Option Refusal
-chosen a b c = cond a (Some Short) (cond b (Some Magic) (cond c (Some NotYet) None))
+pub plain_file : (file : List ℕ) → has_magic file ≡ true → is_plain file ≡ true → IsPlainFile file
+plain_file file magic plain =
+    let size = plain_length file plain in
+    record { magic = magic; plain = plain; whole = whole_text file size }
 
-none_holds : (a b c : Bool) → chosen a b c ≡ None → (a ≡ false) × (b ≡ false) × (c ≡ false)
-none_holds true b c e = cc
-none_holds false true c e = cc
-none_holds false false true e = cc
-none_holds false false false e = (refl, refl, refl)
+no_refusal : (file : List ℕ) (o : Option Refusal) (image : Image) → image_if file o ≡ Ok image → o ≡ None
+no_refusal file None image e = refl
+no_refusal file (Some r) image e = cc
 
-not_false : (b : Bool) → not b ≡ false → b ≡ true
-not_false true e = refl
-not_false false e = cc
+a_refusal : (file : List ℕ) (o : Option Refusal) (r : Refusal) → image_if file o ≡ Err r → o ≡ Some r
+a_refusal file None r e = cc
+a_refusal file (Some q) r e = cc
 
-pub plain_file : (file : List ℕ) → first (plain_tests file) ≡ None → IsPlainFile file
-plain_file file e =
-    let h = none_holds (ltb (length file) 52) (not (has_magic file)) (not (is_plain file)) e in
-    let plain = not_false (is_plain file) h.2 in
-    record { long = ltb-false (length file) 52 h.0; magic = not_false (has_magic file) h.1; plain = plain; whole = whole_text file (plain_length file plain) }
+-- what isn't accepted is refused for the cause of the definition
+pub refused_by_image : (file : List ℕ) (r : Refusal) → image_of file Source ≡ Err r → IsRefused file r
+unfolding image_of
+refused_by_image file r e = by_image (a_refusal file (refusal_of file Source) r e)
 
--- a plain file in which a run can reach what isn't taken yet isn't rewritten
-pub left_out_refuses : (file : List ℕ) → IsPlainFile file → IsLeftOut (text_of file) → IsRefused file NotYet
-left_out_refuses file p l = (p.long, p.magic, λ t. left_out_is_not_taken (plain_image file) (text_of file) (plain_page file p.whole) l t.taken)
+accepted_by_image : (file : List ℕ) (image : Image) → image_of file Source ≡ Ok image → refusal_of file Source ≡ None
+unfolding image_of
+accepted_by_image file image e = no_refusal file (refusal_of file Source) image e
+
+-- an accepted file that isn't plain isn't rewritten
+pub other_form_refuses : (file : List ℕ) (image : Image) → image_of file Source ≡ Ok image → is_plain file ≡ false → IsRefused file NotYet
+other_form_refuses file image e other = not_yet refl (accepted_by_image file image e) (λ t. let plain = t.plain in absurd (true≢false (sym plain ∙ other)))
+
+-- nor is a plain file in which a run can reach what isn't taken yet
+pub left_out_refuses : (file : List ℕ) (image : Image) → image_of file Source ≡ Ok image → IsPlainFile file → IsLeftOut (text_of file) → IsRefused file NotYet
+left_out_refuses file image e p l = not_yet refl (accepted_by_image file image e) (λ t. left_out_is_not_taken (plain_image file) (text_of file) (plain_page file p.whole) l t.taken)
 
 -- one whose page has new code is
 pub laid_takes : (file code : List ℕ) → IsPlainFile file → IsLaid (text_of file) code → IsRewritable file

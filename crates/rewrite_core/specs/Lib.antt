@@ -4,5 +4,6 @@ pub mod Placing
 pub mod Layout
 pub mod Agreement
 pub mod Rewrites
+pub use Rattle.elf_image.specs.Refusals
 pub use Rattle.elf_image.specs.Image
 pub use Rattle.elf_image.specs.Plain

@@ -1,9 +1,9 @@
 -- What the rewriting of a file answers.
-use Rattle.std.specs.Prelude.{◌≡◌, ℕ, ◌<◌, ◌≤◌, true, false, List, length, Result, Ok, Err}
+use Rattle.std.specs.Prelude.{◌≡◌, ℕ, List, Some, None, Result, Ok, Err}
 use Rattle.elf_image.specs.declared.refusal.Refusal.{Refusal}
-use Rattle.elf_image.specs.declared.refusal.Refusal.TheVariants.{Short, Magic, NotYet}
+use Rattle.elf_image.specs.declared.refusal.Refusal.TheVariants.{NotYet}
 use Rattle.elf_image.specs.declared.refusal.Room.TheVariants.{Source, Any}
-use Rattle.elf_image.specs.Fields.{has_magic}
+use Rattle.elf_image.specs.Refusals.{refusal_of}
 use Rattle.elf_image.specs.Image.{image_of}
 use Rattle.elf_image.specs.Plain.{plain_image}
 use Rattle.rewrite_core.specs.declared.rewriter.Rewritten.{Rewritten}
@@ -14,12 +14,11 @@ use Rattle.rewrite_core.specs.Places.{IsLaid}
 use Rattle.rewrite_core.specs.Layout.{text_of, new_file, new_image}
 use Rattle.rewrite_core.specs.Agreement.{RunsAgree}
 
--- the first refusal of a file, in order; a file that is refused by none of them is rewritten
-abbrev pub IsRefused : List ℕ → Refusal → Type 0
-IsRefused file Short = length file < 52
-IsRefused file Magic = (52 ≤ length file) × (has_magic file ≡ false)
-IsRefused file NotYet = (52 ≤ length file) × (has_magic file ≡ true) × (IsRewritable file → ⊥)
-IsRefused file _ = ⊥
+-- why a file is refused: by the first refusal of the definition of an image, or, where it is accepted, because it isn't
+-- rewritten so far
+pub data IsRefused (file : List ℕ) (r : Refusal) : Type 0 where
+  by_image : refusal_of file Source ≡ Some r → IsRefused file r
+  not_yet : r ≡ NotYet → refusal_of file Source ≡ None → (IsRewritable file → ⊥) → IsRefused file r
 
 -- What a file is rewritten to: the file with the new code of its page, which is accepted in the wide room as the stated image,
 -- the old file being accepted in the room of files that are rewritten; and the runs of the two images agree.

@@ -3,7 +3,7 @@ ghost use Rattle.rewrite_core.specs.Rewrites.{Rewrites};
 
 use crate::lay::lay;
 use crate::layout::write_file;
-use elf_image::{ImageError, Refusal, Room, read_image};
+use elf_image::{ImageError, Refusal, Room, image_laws, is_plain, read_image};
 use std::alloc::{AllocError, Global};
 use thiserror::Error;
 use x86_values::ByteList;
@@ -34,9 +34,9 @@ impl From<AllocError> for RewriteError {
     }
 }
 
-/// Rewrites an executable file. So far it takes moves of constants, jumps and
-/// system calls on one page: a file that has at least 52 bytes and the
-/// magic, and isn't plain, or in which a run can meet what isn't taken yet, is `NotYet`.
+/// Rewrites an executable file. A file that isn't accepted in [`Room::Source`] is refused for the first cause. So far
+/// moves of constants, jumps and system calls on one page are taken: an accepted file that isn't plain, or in which a
+/// run can meet what isn't taken yet, is `NotYet`.
 pub fn rewrite(alloc: Global, bytes: &[u8]) -> Result<Rewritten, RewriteError>
     ensures { Rewrites bytes.now result }
 {
@@ -45,6 +45,10 @@ pub fn rewrite(alloc: Global, bytes: &[u8]) -> Result<Rewritten, RewriteError>
         Err(ImageError::Refused(r)) => return Err(RewriteError::Refused(r)),
         Err(ImageError::Memory) => return Err(RewriteError::Memory),
     };
+    if !is_plain(bytes) {
+        return Err(RewriteError::Refused(Refusal::NotYet));
+    }
+    image_laws();
     let text = image.segments.as_slice()[0].bytes.as_slice();
     let Some(code) = lay(alloc, text)? else {
         return Err(RewriteError::Refused(Refusal::NotYet));

@@ -8,9 +8,9 @@ use Rattle.sw_top.specs.declared.end.End.{End}
 use Rattle.sw_top.specs.declared.end.End.TheVariants.{Done, Usage, Refused, Host, Memory}
 use Rattle.sw_top.specs.Words.{Names}
 
--- no file that is rewritten has so many bytes
+-- 16 MiB and a byte; no file that is rewritten has so many
 abbrev pub limit : ℕ
-limit = 8193
+limit = 16777217
 
 -- the text of a map without entries
 abbrev pub map_text : List ℕ

@@ -8,8 +8,8 @@ use rewrite_core::{RewriteError, rewrite};
 use std::alloc::Global;
 use sw_host::{Host, HostFault};
 
-/// The most bytes that are asked of a file, one more than the greatest file that is rewritten.
-const LIMIT: usize = 8193;
+/// The most bytes that are asked of a file: one more than 16 MiB.
+const LIMIT: usize = 16_777_217;
 
 /// The text of a map without entries.
 const MAP_TEXT: &str = "secondwrite-map 1\n";

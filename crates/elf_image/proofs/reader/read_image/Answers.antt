@@ -1,6 +1,61 @@
-use Rattle.std.proofs.Common.{sym}
-use Rattle.elf_image.proofs.PlainForm.{reads_plain}
+use Rattle.std.proofs.Common.{◌≡◌, ◌∙◌, ap, sym, arith, false, true, None, Some, length, filter}
+use Rattle.std.specs.List.{list_any}
+use Rattle.std.proofs.lemmas.List.Elements.{filter_passes, All-same}
+use Rattle.elf_image.specs.Fields.{headers_of}
+use Rattle.elf_image.specs.Pages.{is_segment}
+use Rattle.elf_image.specs.Refusals.{first, segment_tests, is_dynamic, segments_of}
+use Rattle.elf_image.proofs.Reading.{header_refuses, table_refuses, segments_refuse, accepted, all_in_room, image_is}
 use Rattle.elf_image.proofs.reader.read_image.Goals as goal
 
+pub returns-in-Some : goal.returns-in-Some
+returns-in-Some c = record { is = header_refuses c.args.bytes.now c.args.room c.in-Some.refusal (sym c.in-Some.ensures) }
+
+pub returns-then-any_dynamic : goal.returns-then-any_dynamic
+returns-then-any_dynamic c =
+    let table : c.as_slice.result.now ≡ headers_of c.args.bytes.now = c.as_slice.ensures.value ∙ c.in_ok-headers.ensures.are in
+    let any : list_any is_dynamic (headers_of c.args.bytes.now) ≡ true = ap (list_any is_dynamic) (sym table) ∙ sym c.if-any_dynamic.ensures in
+    record { is = table_refuses c.args.bytes.now c.args.room (sym c.header_refusal.ensures ∙ c.in_default.is) any }
+
+pub segment_refusal-requires-clause-few : goal.segment_refusal-requires-clause-few
+segment_refusal-requires-clause-few c =
+    omega (arith, c.as_slice-3.ensures.len, c.in_ok-loaded.ensures.few, c.as_slice-2.ensures.len, c.in_ok-headers.ensures.few)
+
+pub segment_refusal-requires-clause-loaded : goal.segment_refusal-requires-clause-loaded
+segment_refusal-requires-clause-loaded c =
+    All-same (λ h. is_segment h ≡ true) c.as_slice-3.result.now (filter is_segment c.as_slice-2.result.now) (c.as_slice-3.ensures.value ∙ c.in_ok-loaded.ensures.are) (filter_passes is_segment c.as_slice-2.result.now)
+
+pub returns-in-Some-judged : goal.returns-in-Some-judged
+returns-in-Some-judged c =
+    let file = c.args.bytes.now in
+    let table : c.as_slice.result.now ≡ headers_of file = c.as_slice.ensures.value ∙ c.in_ok-headers.ensures.are in
+    let again : c.as_slice-2.result.now ≡ headers_of file = c.as_slice-2.ensures.value ∙ c.in_ok-headers.ensures.are in
+    let loaded : c.as_slice-3.result.now ≡ segments_of file = c.as_slice-3.ensures.value ∙ c.in_ok-loaded.ensures.are ∙ ap (filter is_segment) again in
+    let none : list_any is_dynamic (headers_of file) ≡ false = ap (list_any is_dynamic) (sym table) ∙ sym c.if-any_dynamic.ensures in
+    let found : c.in_ok-judged.judged ≡ first (segment_tests (length file) c.word-entry.result c.args.room c.as_slice-3.result.now) = c.in_ok-judged.ensures in
+    let judged : first (segment_tests (length file) c.word-entry.result c.args.room c.as_slice-3.result.now) ≡ Some c.in-Some-judged.refusal = sym found ∙ c.in-Some-judged.is in
+    let same = ap (λ hs. first (segment_tests (length file) c.word-entry.result c.args.room hs)) loaded in
+    let at = ap (λ a. first (segment_tests (length file) a c.args.room (segments_of file))) c.word-entry.ensures in
+    record { is = segments_refuse file c.args.room c.in-Some-judged.refusal (sym c.header_refusal.ensures ∙ c.in_default.is) none (sym at ∙ sym same ∙ judged) }
+
+pub segments_of-requires : goal.segments_of-requires
+segments_of-requires c =
+    let file = c.args.bytes.now in
+    let same : c.as_slice-4.result.now ≡ c.as_slice-3.result.now = c.as_slice-4.ensures.value ∙ sym c.as_slice-3.ensures.value in
+    let found : c.in_ok-judged.judged ≡ first (segment_tests (length file) c.word-entry.result c.args.room c.as_slice-3.result.now) = c.in_ok-judged.ensures in
+    let passed : first (segment_tests (length file) c.word-entry.result c.args.room c.as_slice-3.result.now) ≡ None = sym found ∙ c.in_default-judged.is in
+    rw same (all_in_room (length file) c.word-entry.result c.args.room c.as_slice-3.result.now passed)
+
 pub returns : goal.returns
-returns c = reads_plain c.args.bytes.now c.args.room c.in_ok-image.image c.if-bytes-lt52.false (sym c.if-not-has_magic.ensures) (sym c.if-not-is_plain.ensures) c.in_ok-image.ensures
+returns c =
+    let file = c.args.bytes.now in
+    let table : c.as_slice.result.now ≡ headers_of file = c.as_slice.ensures.value ∙ c.in_ok-headers.ensures.are in
+    let again : c.as_slice-2.result.now ≡ headers_of file = c.as_slice-2.ensures.value ∙ c.in_ok-headers.ensures.are in
+    let loaded : c.as_slice-3.result.now ≡ segments_of file = c.as_slice-3.ensures.value ∙ c.in_ok-loaded.ensures.are ∙ ap (filter is_segment) again in
+    let none : list_any is_dynamic (headers_of file) ≡ false = ap (list_any is_dynamic) (sym table) ∙ sym c.if-any_dynamic.ensures in
+    let found : c.in_ok-judged.judged ≡ first (segment_tests (length file) c.word-entry.result c.args.room c.as_slice-3.result.now) = c.in_ok-judged.ensures in
+    let passed : first (segment_tests (length file) c.word-entry.result c.args.room c.as_slice-3.result.now) ≡ None = sym found ∙ c.in_default-judged.is in
+    let same = ap (λ hs. first (segment_tests (length file) c.word-entry.result c.args.room hs)) loaded in
+    let at = ap (λ a. first (segment_tests (length file) a c.args.room (segments_of file))) c.word-entry.ensures in
+    let takes = accepted file c.args.room (sym c.header_refusal.ensures ∙ c.in_default.is) none (sym at ∙ sym same ∙ passed) in
+    let used : c.as_slice-4.result.now ≡ segments_of file = c.as_slice-4.ensures.value ∙ sym c.as_slice-3.ensures.value ∙ loaded in
+    record { is = image_is file c.args.room c.as_slice-4.result.now c.new.result c.word-entry.result takes used (c.new.ensures ∙ c.in_ok-segments.ensures) c.word-entry.ensures }

@@ -1,27 +1,39 @@
-use Rattle.std.proofs.Common.{◌≡◌, ◌<◌, length, ap, ◌∙◌, subst, arith, Ok}
+use Rattle.std.proofs.Common.{◌≡◌, ◌<◌, length, ap, ◌∙◌, sym, subst, arith, Ok}
 use Rattle.std.proofs.lemmas.List.Elements.{All-from_get_or}
-use Rattle.elf_image.specs.declared.refusal.Room.TheVariants.{Any}
+use Rattle.elf_image.specs.declared.refusal.Room.TheVariants.{Any, Source}
 use Rattle.elf_image.specs.Image.{image_of}
 use Rattle.rewrite_core.specs.Places.{IsLeftOut, IsLaid}
 use Rattle.rewrite_core.specs.Layout.{text_of, new_file}
-use Rattle.rewrite_core.proofs.Outcomes.{plain_file, left_out_refuses, laid_takes, text_is}
+use Rattle.rewrite_core.proofs.Outcomes.{plain_file, refused_by_image, other_form_refuses, left_out_refuses, laid_takes, text_is}
 use Rattle.rewrite_core.proofs.LayoutLemmas.{new_file_accepted}
 use Rattle.rewrite_core.proofs.Agreements.{new_file_agrees}
 use Rattle.rewrite_core.proofs.rewriter.rewrite.Goals as goal
 
+pub returns-in-Err-Refused : goal.returns-in-Err-Refused
+returns-in-Err-Refused c =
+    let refused = rw c.in-Err-Refused.field-0-is at c.in-Err-Refused.ensures in
+    rw c.in-Err-Refused.r-is (refused_by_image c.args.bytes.now c.in-Err-Refused.r refused.is)
+
+pub returns-then-not-is_plain : goal.returns-then-not-is_plain
+returns-then-not-is_plain c = other_form_refuses c.args.bytes.now c.in-Ok.image c.in-Ok.ensures.is (sym c.if-not-is_plain.ensures)
+
 pub lay-requires : goal.lay-requires
 lay-requires c =
     let file = c.args.bytes.now in
-    let plain = plain_file file c.in-Ok.ensures.0 in
-    let text = c.as_slice-text.ensures ∙ text_is file c.in-Ok.image c.as_slice.result.now _ c.in-Ok.ensures.2 c.as_slice.ensures in
+    let is_plain_file = sym c.if-not-is_plain.ensures in
+    let read = c.image_laws.ensures.plain_is_read file Source c.in-Ok.image c.in-Ok.ensures.is is_plain_file in
+    let plain = plain_file file read.0 is_plain_file in
+    let text = c.as_slice-text.ensures ∙ text_is file c.in-Ok.image c.as_slice.result.now _ read.1 c.as_slice.ensures in
     ap length text ∙ plain.whole
 
 pub returns-in_default : goal.returns-in_default
 returns-in_default c =
     let file = c.args.bytes.now in
-    let text = c.as_slice-text.ensures ∙ text_is file c.in-Ok.image c.as_slice.result.now _ c.in-Ok.ensures.2 c.as_slice.ensures in
+    let is_plain_file = sym c.if-not-is_plain.ensures in
+    let read = c.image_laws.ensures.plain_is_read file Source c.in-Ok.image c.in-Ok.ensures.is is_plain_file in
+    let text = c.as_slice-text.ensures ∙ text_is file c.in-Ok.image c.as_slice.result.now _ read.1 c.as_slice.ensures in
     let left_out : IsLeftOut c.as_slice-text.result.now = rw c.in_default.is at c.in_ok-code.ensures.laid in
-    left_out_refuses file (plain_file file c.in-Ok.ensures.0) (subst IsLeftOut text left_out)
+    left_out_refuses file c.in-Ok.image c.in-Ok.ensures.is (plain_file file read.0 is_plain_file) (subst IsLeftOut text left_out)
 
 pub write_file-requires : goal.write_file-requires
 write_file-requires c =
@@ -31,8 +43,10 @@ write_file-requires c =
 pub returns : goal.returns
 returns c =
     let file = c.args.bytes.now in
-    let plain = plain_file file c.in-Ok.ensures.0 in
-    let text = c.as_slice-text.ensures ∙ text_is file c.in-Ok.image c.as_slice.result.now _ c.in-Ok.ensures.2 c.as_slice.ensures in
+    let is_plain_file = sym c.if-not-is_plain.ensures in
+    let read = c.image_laws.ensures.plain_is_read file Source c.in-Ok.image c.in-Ok.ensures.is is_plain_file in
+    let plain = plain_file file read.0 is_plain_file in
+    let text = c.as_slice-text.ensures ∙ text_is file c.in-Ok.image c.as_slice.result.now _ read.1 c.as_slice.ensures in
     let code = c.in-Some.code.items in
     let found : IsLaid c.as_slice-text.result.now code = rw c.in-Some.is at c.in_ok-code.ensures.laid in
     let laid : IsLaid (text_of file) code = subst (λ t. IsLaid t code) text found in
@@ -44,7 +58,7 @@ returns c =
       code = code;
       laid = laid;
       is = is;
-      read = c.in-Ok.ensures.1 ∙ ap Ok c.in-Ok.ensures.2;
+      read = c.in-Ok.ensures.is ∙ ap Ok read.1;
       accepted = ap (λ f. image_of f Any) is ∙ new_file_accepted (text_of file) code plain.whole laid.some (omega (arith, laid.few));
       agrees = new_file_agrees file code bytes takes laid;
     }

@@ -1,0 +1,89 @@
+-- The tests of a file in three steps: its header, its table, its segments.
+use Rattle.std.proofs.Common.{◌≡◌, ℕ, ◌∙◌, Bool, true, false, cond, not, ltb, List, [], ◌∷◌, ◌++◌, length, map, filter, Some, None, Ok, Err, refl, ap, sym}
+use Rattle.std.specs.List.{list_any}
+use Rattle.elf_image.specs.declared.image.Image.{Image}
+use Rattle.elf_image.specs.declared.image.Segment.{Segment}
+use Rattle.elf_image.specs.declared.header.ProgramHeader.{ProgramHeader}
+use Rattle.elf_image.specs.declared.refusal.Room.{Room}
+use Rattle.elf_image.specs.declared.refusal.Refusal.{Refusal}
+use Rattle.elf_image.specs.declared.refusal.Refusal.TheVariants.{Dynamic, SegmentFile, SegmentSize, SegmentAlign, Permission, Range, SharedPage, Entry, CodeSpan, ImageSize}
+use Rattle.elf_image.specs.Fields.{entry, headers_of}
+use Rattle.elf_image.specs.Refusals.{first, header_tests, segment_tests, segments_of, refusal_of, is_dynamic, is_out_of_room, room_end, room_span, room_size, any_shares_page, has_address, can_run, code_span, pages_size}
+use Rattle.elf_image.specs.Image.{image_of, image_if, segment_of}
+use Rattle.elf_image.proofs.Rooms.{within_any}
+
+abbrev image : List Segment → ℕ → Image
+image ss e = record { segments = ss; entry = e }
+
+first_here : {A : Type 0} (ts us : List (Bool × A)) (a : A) → first ts ≡ Some a → first (ts ++ us) ≡ Some a
+first_here [] us a e = cc
+first_here (t ∷ ts) us a e = here t.0 t.1 ts us a e (first_here ts us a)
+  where
+    here : {A : Type 0} (b : Bool) (x : A) (ts us : List (Bool × A)) (a : A) → cond b (Some x) (first ts) ≡ Some a → (first ts ≡ Some a → first (ts ++ us) ≡ Some a) → cond b (Some x) (first (ts ++ us)) ≡ Some a
+    here true x ts us a e rest = e
+    here false x ts us a e rest = rest e
+
+first_after : {A : Type 0} (ts us : List (Bool × A)) → first ts ≡ None → first (ts ++ us) ≡ first us
+first_after [] us e = refl
+first_after (t ∷ ts) us e = after t.0 t.1 ts us e (first_after ts us)
+  where
+    after : {A : Type 0} (b : Bool) (x : A) (ts us : List (Bool × A)) → cond b (Some x) (first ts) ≡ None → (first ts ≡ None → first (ts ++ us) ≡ first us) → cond b (Some x) (first (ts ++ us)) ≡ first us
+    after true x ts us e rest = cc
+    after false x ts us e rest = rest e
+
+refused : (file : List ℕ) (room : Room) (r : Refusal) → refusal_of file room ≡ Some r → image_of file room ≡ Err r
+unfolding image_of
+refused file room r e = ap (image_if file) e
+
+-- the tests after those of the header
+abbrev after_header : List ℕ → Room → List (Bool × Refusal)
+after_header file room = (list_any is_dynamic (headers_of file), Dynamic) ∷ segment_tests (length file) (entry file) room (segments_of file)
+
+pub header_refuses : (file : List ℕ) (room : Room) (r : Refusal) → first (header_tests file) ≡ Some r → image_of file room ≡ Err r
+unfolding refusal_of
+header_refuses file room r e = refused file room r (first_here (header_tests file) (after_header file room) r e)
+
+past_header : (file : List ℕ) (room : Room) → first (header_tests file) ≡ None
+    → refusal_of file room ≡ cond (list_any is_dynamic (headers_of file)) (Some Dynamic) (first (segment_tests (length file) (entry file) room (segments_of file)))
+unfolding refusal_of
+past_header file room e = first_after (header_tests file) (after_header file room) e
+
+pub table_refuses : (file : List ℕ) (room : Room) → first (header_tests file) ≡ None → list_any is_dynamic (headers_of file) ≡ true → image_of file room ≡ Err Dynamic
+table_refuses file room e d = refused file room Dynamic (past_header file room e ∙ ap (λ b. cond b (Some Dynamic) (first (segment_tests (length file) (entry file) room (segments_of file)))) d)
+
+past_table : (file : List ℕ) (room : Room) → first (header_tests file) ≡ None → list_any is_dynamic (headers_of file) ≡ false
+    → refusal_of file room ≡ first (segment_tests (length file) (entry file) room (segments_of file))
+past_table file room e d = past_header file room e ∙ ap (λ b. cond b (Some Dynamic) (first (segment_tests (length file) (entry file) room (segments_of file)))) d
+
+pub segments_refuse : (file : List ℕ) (room : Room) (r : Refusal) → first (header_tests file) ≡ None → list_any is_dynamic (headers_of file) ≡ false
+    → first (segment_tests (length file) (entry file) room (segments_of file)) ≡ Some r → image_of file room ≡ Err r
+segments_refuse file room r e d s = refused file room r (past_table file room e d ∙ s)
+
+pub accepted : (file : List ℕ) (room : Room) → first (header_tests file) ≡ None → list_any is_dynamic (headers_of file) ≡ false
+    → first (segment_tests (length file) (entry file) room (segments_of file)) ≡ None → image_of file room ≡ image_if file None
+unfolding image_of
+accepted file room e d s = ap (image_if file) (past_table file room e d ∙ s)
+
+-- the fifth test of a list in which none holds
+fifth : (a b c d e : Bool) (q r s t u : Refusal) (ts : List (Bool × Refusal)) → first ((a, q) ∷ (b, r) ∷ (c, s) ∷ (d, t) ∷ (e, u) ∷ ts) ≡ None → e ≡ false
+fifth true b c d e q r s t u ts none = cc
+fifth false true c d e q r s t u ts none = cc
+fifth false false true d e q r s t u ts none = cc
+fifth false false false true e q r s t u ts none = cc
+fifth false false false false true q r s t u ts none = cc
+fifth false false false false false q r s t u ts none = refl
+
+abbrev later_tests : ℕ → Room → List ProgramHeader → List (Bool × Refusal)
+later_tests at room hs =
+    (any_shares_page hs, SharedPage) ∷ (not (list_any (has_address at) (filter can_run hs)), Entry) ∷ (ltb (room_span room) (code_span hs), CodeSpan)
+    ∷ (ltb (room_size room) (pages_size hs), ImageSize) ∷ []
+
+pub all_in_room : (n at : ℕ) (room : Room) (hs : List ProgramHeader) → first (segment_tests n at room hs) ≡ None → list_any (is_out_of_room 0x7C000000) hs ≡ false
+all_in_room n at room hs none = within_any room hs (fifth _ _ _ _ (list_any (is_out_of_room (room_end room)) hs) SegmentFile SegmentSize SegmentAlign Permission Range (later_tests at room hs) none)
+
+same_image : {ss ts : List Segment} {e f : ℕ} → ss ≡ ts → e ≡ f → image ss e ≡ image ts f
+same_image p q = cc
+
+pub image_is : (file : List ℕ) (room : Room) (hs : List ProgramHeader) (ss : List Segment) (at : ℕ) → image_of file room ≡ image_if file None → hs ≡ segments_of file
+    → ss ≡ map (segment_of file) hs → at ≡ entry file → image_of file room ≡ Ok (image ss at)
+image_is file room hs ss at e h s a = e ∙ ap Ok (same_image (sym (s ∙ ap (map (segment_of file)) h)) (sym a))

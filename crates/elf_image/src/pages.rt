@@ -1,0 +1,51 @@
+// The pages of a segment, of 4,096 bytes each, and what may be done with them.
+ghost use Rattle.std.specs.Prelude.{◌≡◌, ◌^◌, ◌<◌};
+ghost use Rattle.elf_image.specs.Pages.{first_page, end_page, file_end_page, has};
+
+use crate::{Perm, ProgramHeader};
+use bitflags::Flags;
+
+/// The number of the segment's first page.
+pub(crate) fn first_page(h: ProgramHeader) -> u64
+    ensures is { result ≡ first_page h }
+    ensures small { result < 2 ^ 22 }
+{
+    u64::from(h.address) / 4096
+}
+
+/// The number of the page after its last.
+pub(crate) fn end_page(h: ProgramHeader) -> u64
+    ensures is { result ≡ end_page h }
+    ensures small { result < 2 ^ 22 }
+{
+    (u64::from(h.address) + u64::from(h.memory_size) + 4095) / 4096
+}
+
+/// The number of the page after the last that has bytes of the file.
+pub(crate) fn file_end_page(h: ProgramHeader) -> u64
+    ensures is { result ≡ file_end_page h }
+    ensures small { result < 2 ^ 22 }
+{
+    (u64::from(h.address) + u64::from(h.file_size) + 4095) / 4096
+}
+
+#[tactic(auto, using(crate::proofs::Permissions::run_bit))]
+pub(crate) fn can_run(h: ProgramHeader) -> bool
+    ensures { result ≡ has h.flags 1 }
+{
+    Perm(h.flags).contains(Perm::X)
+}
+
+#[tactic(auto, using(crate::proofs::Permissions::write_bit))]
+pub(crate) fn can_write(h: ProgramHeader) -> bool
+    ensures { result ≡ has h.flags 2 }
+{
+    Perm(h.flags).contains(Perm::W)
+}
+
+#[tactic(auto, using(crate::proofs::Permissions::read_bit))]
+pub(crate) fn can_read(h: ProgramHeader) -> bool
+    ensures { result ≡ has h.flags 4 }
+{
+    Perm(h.flags).contains(Perm::R)
+}

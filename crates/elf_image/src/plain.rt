@@ -1,0 +1,55 @@
+// The plain form: the one layout that is rewritten so far.
+ghost use Rattle.std.specs.Prelude.{◌≡◌, ◌≤◌, length};
+ghost use Rattle.elf_image.specs.Plain.{has_plain_header, is_plain_text, is_plain_room, is_plain};
+
+use crate::ProgramHeader;
+use crate::header::{half, header_at, word};
+
+/// Whether a file has the plain form: 8,192 bytes, one page of code and one page of zeros.
+#[tactic(auto, unfolding(crate::specs::Plain::is_plain))]
+pub fn is_plain(bytes: &[u8]) -> bool
+    ensures { result ≡ is_plain bytes.now }
+{
+    bytes.len() == 8192
+        && has_plain_header(bytes)
+        && is_plain_text(header_at(bytes, 52))
+        && is_plain_room(header_at(bytes, 84))
+}
+
+fn has_plain_header(bytes: &[u8]) -> bool
+    requires { 52 ≤ length bytes.now }
+    ensures { result ≡ has_plain_header bytes.now }
+{
+    bytes[4] == 1
+        && bytes[5] == 1
+        && bytes[6] == 1
+        && half(bytes, 16) == 2
+        && half(bytes, 18) == 3
+        && word(bytes, 24) == 0x08049000
+        && word(bytes, 28) == 52
+        && half(bytes, 42) == 32
+        && half(bytes, 44) == 2
+}
+
+fn is_plain_text(h: ProgramHeader) -> bool
+    ensures { result ≡ is_plain_text h }
+{
+    h.kind == 1
+        && h.offset == 0x1000
+        && h.address == 0x08049000
+        && h.file_size == h.memory_size
+        && 1 <= h.file_size
+        && h.file_size <= 4096
+        && h.flags == 5
+}
+
+fn is_plain_room(h: ProgramHeader) -> bool
+    ensures { result ≡ is_plain_room h }
+{
+    h.kind == 1
+        && h.offset == 0x2000
+        && h.address == 0x0804A000
+        && h.file_size == 0
+        && h.memory_size == 4096
+        && h.flags == 6
+}
