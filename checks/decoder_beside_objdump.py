@@ -127,7 +127,7 @@ def expected(form, f, place, length):
 
 def read(line):
     """Length, form and fields of a line, or None."""
-    words = line.split()
+    words = line.split(" encode=")[0].split()
     if len(words) < 2 or not words[0].isdigit():
         return None
     return int(words[0]), words[1], dict(word.split("=", 1) for word in words[2:])
