@@ -1,3 +1,4 @@
+pub mod Addresses
 pub mod Extents
 pub mod Headers
 pub mod Permissions

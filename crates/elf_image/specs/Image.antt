@@ -40,6 +40,10 @@ byte_at image a = option_map (byte_in a) (segment_at image a)
 abbrev pub can_write : Image → ℕ → Bool
 can_write image a = option_map_or (λ s. has s.perm.0 2) (segment_at image a) false
 
+-- whether the byte at an address can be run; none can where nothing is mapped
+abbrev pub can_run_at : Image → ℕ → Bool
+can_run_at image a = option_map_or (λ s. has s.perm.0 1) (segment_at image a) false
+
 abbrev pub code_byte_in : ℕ → Option Segment → Option ℕ
 code_byte_in a None = None
 code_byte_in a (Some s) = cond (has s.perm.0 1) (Some (byte_in a s)) None

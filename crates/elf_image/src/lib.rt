@@ -2,6 +2,7 @@
 //! (System V gABI, chapters 4 and 5; Intel386 supplement).
 #![tactic(auto)]
 
+mod address;
 mod extent;
 mod header;
 mod image;
@@ -18,6 +19,7 @@ mod table;
 #[cfg(test)]
 mod tests;
 
+pub use address::{byte_at, can_run};
 pub use header::ProgramHeader;
 pub use image::{Image, Segment, SegmentList};
 pub use laws::{image_laws, worked_images};

@@ -1,6 +1,6 @@
 ghost use Rattle.std.specs.Prelude.{◌≡◌, ◌+◌, ◌≤◌, length, IfOk};
 
-use crate::{Image, ImageError, Refusal, Room, Segment, read_image};
+use crate::{Image, ImageError, Refusal, Room, Segment, byte_at, can_run, read_image};
 use std::alloc::{AllocError, Global};
 use std::process::Abort;
 use std::test::Fail;
@@ -257,6 +257,98 @@ fn maps_whole_pages_of_the_file(rt: HostRuntime) -> Result<(), Fail> {
         // what is longer in memory begins with zeros where its bytes of the file end
         page[304..308].copy_from_slice(&[0; 4]);
         assert_eq!(rt; variables.bytes.as_slice(), page.as_slice());
+    }
+    Ok(())
+}
+
+// The headers of a file with four segments, each at the beginning of a page, and a note on the stack (PT_GNU_STACK).
+static NOTED: [(usize, u32); 41] = [
+    (0, 0x464C457F),
+    (4, 0x00010101),
+    (16, 0x00030002),
+    (20, 1),
+    (24, 0x08049000),
+    (28, 52),
+    (40, 0x00200034),
+    (44, 5),
+    (52, 1),
+    (60, 0x08048000),
+    (64, 0x08048000),
+    (68, 0xD4),
+    (72, 0xD4),
+    (76, 4),
+    (80, 4096),
+    (84, 1),
+    (88, 0x1000),
+    (92, 0x08049000),
+    (96, 0x08049000),
+    (100, 62),
+    (104, 62),
+    (108, 5),
+    (112, 4096),
+    (116, 1),
+    (120, 0x2000),
+    (124, 0x0804A000),
+    (128, 0x0804A000),
+    (132, 4),
+    (136, 4),
+    (140, 4),
+    (144, 4096),
+    (148, 1),
+    (152, 0x3000),
+    (156, 0x0804B000),
+    (160, 0x0804B000),
+    (164, 4),
+    (168, 16),
+    (172, 6),
+    (176, 4096),
+    (180, 0x6474E551),
+    (204, 6),
+];
+
+// A program that writes its argument byte by byte, as it is assembled.
+static TEXT: [u8; 62] = [
+    0xF3, 0x0F, 0x1E, 0xFB, 0x8B, 0x74, 0x24, 0x04, 0x31, 0xD2, 0x80, 0x3C, 0x16, 0x00, 0x74, 0x03,
+    0x42, 0xEB, 0xF7, 0x85, 0xD2, 0x74, 0x0D, 0x89, 0xF1, 0xE8, 0x12, 0x00, 0x00, 0x00, 0x01, 0xC6,
+    0x29, 0xC2, 0xEB, 0xEF, 0x31, 0xDB, 0xB8, 0x01, 0x00, 0x00, 0x00, 0xCD, 0x80, 0xF4, 0x66, 0x90,
+    0xBB, 0x01, 0x00, 0x00, 0x00, 0xB8, 0x04, 0x00, 0x00, 0x00, 0xCD, 0x80, 0xF3, 0xC3,
+];
+
+fn noted_file(alloc: Global) -> Result<Vec<u8>, AllocError> {
+    let mut file = vec![in alloc; 0u8; 0x3004]?;
+    put(file.as_mut_slice(), &NOTED);
+    if 0x103E <= file.len() {
+        file[0x1000..0x103E].copy_from_slice(&TEXT);
+    }
+    Ok(file)
+}
+
+#[test]
+fn reads_a_file_with_a_note(rt: HostRuntime) -> Result<(), Fail> {
+    let file = noted_file(rt.alloc())?;
+    let image = read_image(rt.alloc(), file.as_slice(), Room::Source)?;
+    assert_eq!(rt; image.entry, 0x08049000);
+    assert_eq!(rt;
+        shapes(&image),
+        Some([
+            (0x08048000, 4096, 4),
+            (0x08049000, 4096, 5),
+            (0x0804A000, 4096, 4),
+            (0x0804B000, 4096, 6)
+        ])
+    );
+    for (at, byte, runs) in [
+        (0x08047FFF, None, false),
+        (0x08048000, Some(0x7F), false),
+        (0x08049000, Some(0xF3), true),
+        (0x0804903D, Some(0xC3), true),
+        (0x08049FFF, Some(0), true),
+        (0x0804A000, Some(0), false),
+        (0x0804BFFF, Some(0), false),
+        (0x0804C000, None, false),
+    ] {
+        assert_eq!(rt; byte_at(&image, at), byte);
+        assert_eq!(rt; can_run(&image, at), runs);
     }
     Ok(())
 }
