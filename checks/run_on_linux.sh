@@ -45,9 +45,11 @@ writes() {
     [ ! -x "$1.new" ] && [ ! -x "$1.map" ] && [ "$(cat "$1.map")" = "secondwrite-map 1" ]
 }
 
-# code_is FILE BYTES: those bytes and no others stand after the first two pages.
+# code_is FILE BYTES: after the first two pages stand those bytes, and then zeros up to the end of a page.
 code_is() {
-    [ "$(tail -c +8193 "$1" | od -A n -v -t x1 | tr -d ' \n')" = "$(echo "$2" | tr -d ' ' | tr A-F a-f)" ]
+    local code
+    code=$(echo "$2" | tr -d ' ' | tr A-F a-f)
+    [ "$(tail -c +8193 "$1" | od -A n -v -t x1 | tr -d ' \n')" = "$code$(printf '%0*d' $((8192 - ${#code})) 0)" ]
 }
 
 # run FILE: leaves its output in FILE.out and its status in status.
