@@ -2,7 +2,7 @@
 ghost use Rattle.std.specs.Prelude.{◌≡◌, ◌<◌, ◌++◌, length, Ok, IfOk, OnOk};
 ghost use Rattle.elf_image.specs.declared.refusal.Room.TheVariants.{Any};
 ghost use Rattle.elf_image.specs.Image.{image_of};
-ghost use Rattle.elf_writer.specs.Wanted.{CanBeWritten};
+ghost use Rattle.elf_writer.specs.Wanted.{CanBeWritten, image_with};
 ghost use Rattle.elf_writer.specs.Written.{data_of, written};
 
 use crate::bytes::push_zeros;
@@ -16,7 +16,7 @@ use std::alloc::{AllocError, Global};
 pub fn write_image(alloc: Global, segments: &SegmentList, entry: u32) -> Result<Vec<u8>, AllocError>
     requires wanted { CanBeWritten segments.now entry }
     ensures exact { IfOk result (λ file. file.items ≡ written segments.now entry) }
-    ensures again { IfOk result (λ file. image_of file.items Any ≡ Ok (record { segments = segments.now; entry = entry })) }
+    ensures again { IfOk result (λ file. image_of file.items Any ≡ Ok (image_with segments.now entry)) }
 {
     let segments = segments.as_slice();
     let count = segments.len();
