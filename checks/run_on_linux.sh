@@ -111,7 +111,7 @@ check "no form: 125, nothing stored" stores_nothing 125 "sw: usage" lift exit7 o
 check "a word that isn't text: 115, nothing said" stores_nothing 115 "" rewrite exit7 out $'\xff'
 check "a short file: 124, nothing stored" stores_nothing 124 "sw: refused Short" rewrite empty out map
 check "a text: 124, nothing stored" stores_nothing 124 "sw: refused Magic" rewrite text out map
-check "half a file: 124, nothing stored" stores_nothing 124 "sw: refused NotYet" rewrite half out map
+check "half a file: 124, nothing stored" stores_nothing 124 "sw: refused SegmentFile" rewrite half out map
 check "a byte too many: 124, nothing stored" stores_nothing 124 "sw: refused NotYet" rewrite long out map
 check "a missing file: 121, nothing stored" stores_nothing 121 "sw: host fault" rewrite nothing out map
 check "a folder as the file: 121, nothing stored" stores_nothing 121 "sw: host fault" rewrite . out map

@@ -12,7 +12,8 @@ use std::alloc::{AllocError, Global};
 
 /// The file with these segments, which begins to run at the entry. Its program headers stand in the order of the
 /// segments, right after its header, and the bytes of the segments from the next multiple of 4,096 on; there are no
-/// sections. Only memory can be wanting.
+/// sections. For a file that is loaded the gABI ("Program Header") wants the segments in ascending order of their
+/// addresses. Only memory can be wanting.
 pub fn write_image(alloc: Global, segments: &SegmentList, entry: u32) -> Result<Vec<u8>, AllocError>
     requires wanted { CanBeWritten segments.now entry }
     ensures exact { IfOk result (λ file. file.items ≡ written segments.now entry) }

@@ -58,7 +58,7 @@ and_false false = refl
 entry_held : (code : List ℕ) → 1 ≤ length code → runs_at code_start (code_segment code) ≡ true
 entry_held code some = lt-ltb code_start (code_start + whole_pages (length code)) (omega (arith, some))
 
-pub new_can_be_written : (text code : List ℕ) → length text ≡ 4096 → 1 ≤ length code → length code ≤ 0x14000000 → CanBeWritten (new_image text code).segments code_start
+new_can_be_written : (text code : List ℕ) → length text ≡ 4096 → 1 ≤ length code → length code ≤ 0x14000000 → CanBeWritten (new_image text code).segments code_start
 new_can_be_written text code page some few =
     let n : ℕ = whole_pages (length code) in
     let end : ℕ = code_start + n in

@@ -53,7 +53,7 @@ fn new_segments(alloc: Global, text: &[u8], code: Vec<u8>) -> Result<SegmentList
     Ok(SegmentList::new(Vec::from_array(alloc, [kept, room, code])?))
 }
 
-/// The file with this page of code and this new code, of at most the greatest span of code that the wide room takes.
+/// The file with this page of code and this new code, which is no longer than the greatest span of code in the wide room.
 pub fn write_file(alloc: Global, text: &[u8], code: Vec<u8>) -> Result<Vec<u8>, AllocError>
     requires page { length text.now ≡ 4096 }
     requires some { 1 ≤ length code.items }
