@@ -45,9 +45,11 @@ writes() {
     [ ! -x "$1.new" ] && [ ! -x "$1.map" ] && [ "$(cat "$1.map")" = "secondwrite-map 1" ]
 }
 
-# code_is FILE BYTES: those bytes and no others stand after the first two pages.
+# code_is FILE BYTES: after the first two pages stand those bytes, and then zeros up to the end of a page.
 code_is() {
-    [ "$(tail -c +8193 "$1" | od -A n -v -t x1 | tr -d ' \n')" = "$(echo "$2" | tr -d ' ' | tr A-F a-f)" ]
+    local code
+    code=$(echo "$2" | tr -d ' ' | tr A-F a-f)
+    [ "$(tail -c +8193 "$1" | od -A n -v -t x1 | tr -d ' \n')" = "$code$(printf '%0*d' $((8192 - ${#code})) 0)" ]
 }
 
 # run FILE: leaves its output in FILE.out and its status in status.
@@ -109,7 +111,7 @@ check "no form: 125, nothing stored" stores_nothing 125 "sw: usage" lift exit7 o
 check "a word that isn't text: 115, nothing said" stores_nothing 115 "" rewrite exit7 out $'\xff'
 check "a short file: 124, nothing stored" stores_nothing 124 "sw: refused Short" rewrite empty out map
 check "a text: 124, nothing stored" stores_nothing 124 "sw: refused Magic" rewrite text out map
-check "half a file: 124, nothing stored" stores_nothing 124 "sw: refused NotYet" rewrite half out map
+check "half a file: 124, nothing stored" stores_nothing 124 "sw: refused SegmentFile" rewrite half out map
 check "a byte too many: 124, nothing stored" stores_nothing 124 "sw: refused NotYet" rewrite long out map
 check "a missing file: 121, nothing stored" stores_nothing 121 "sw: host fault" rewrite nothing out map
 check "a folder as the file: 121, nothing stored" stores_nothing 121 "sw: host fault" rewrite . out map

@@ -2,7 +2,7 @@
 ghost use Rattle.std.specs.Prelude.{◌≡◌, ◌<◌, ◌++◌, length, Ok, IfOk, OnOk};
 ghost use Rattle.elf_image.specs.declared.refusal.Room.TheVariants.{Any};
 ghost use Rattle.elf_image.specs.Image.{image_of};
-ghost use Rattle.elf_writer.specs.Wanted.{CanBeWritten};
+ghost use Rattle.elf_writer.specs.Wanted.{CanBeWritten, image_with};
 ghost use Rattle.elf_writer.specs.Written.{data_of, written};
 
 use crate::bytes::push_zeros;
@@ -12,11 +12,12 @@ use std::alloc::{AllocError, Global};
 
 /// The file with these segments, which begins to run at the entry. Its program headers stand in the order of the
 /// segments, right after its header, and the bytes of the segments from the next multiple of 4,096 on; there are no
-/// sections. Only memory can be wanting.
+/// sections. For a file that is loaded the gABI ("Program Header") wants the segments in ascending order of their
+/// addresses. Only memory can be wanting.
 pub fn write_image(alloc: Global, segments: &SegmentList, entry: u32) -> Result<Vec<u8>, AllocError>
     requires wanted { CanBeWritten segments.now entry }
     ensures exact { IfOk result (λ file. file.items ≡ written segments.now entry) }
-    ensures again { IfOk result (λ file. image_of file.items Any ≡ Ok (record { segments = segments.now; entry = entry })) }
+    ensures again { IfOk result (λ file. image_of file.items Any ≡ Ok (image_with segments.now entry)) }
 {
     let segments = segments.as_slice();
     let count = segments.len();

@@ -50,18 +50,20 @@ const NEW_HEADERS: [u8; 148] = [
     0x10, 0, 0, // new code
 ];
 
-// The file that is written for a plain one with this new code: both sizes are its length.
+// The file that is written for a plain one with this new code: it stands in whole pages, and both sizes are theirs.
 pub fn new_file_of(alloc: Global, file: &[u8], code: &[u8]) -> Result<Vec<u8>, AllocError>
     requires plain { length file.now ≡ 8192 }
     requires fits { length code.now ≤ 8192 }
 {
     let mut new = vec![in alloc; 0u8; 8192]?;
-    let size = (code.len() as u16).to_le_bytes();
+    let pages = code.len().next_multiple_of(4096);
+    let size = (pages as u16).to_le_bytes();
     new[..148].copy_from_slice(&NEW_HEADERS);
     new[132..134].copy_from_slice(&size);
     new[136..138].copy_from_slice(&size);
     new[4096..8192].copy_from_slice(&file[4096..8192]);
     new.extend_from_slice(code)?;
+    new.resize(8192 + pages, 0)?;
     Ok(new)
 }
 

@@ -25,10 +25,11 @@ fn rewrites_a_file(rt: HostRuntime) -> Result<(), Fail> {
     assert_eq!(rt; line_of(&host), b"".as_slice());
     assert_eq!(rt; host.file("map"), Some(NEW_MAP));
     let out = host.file("out").ok_or("no OUT")?;
-    assert_eq!(rt; out.len(), 8192 + 14);
+    assert_eq!(rt; out.len(), 12288);
     assert_eq!(rt; &out[24..28], b"\0\0\0\x60".as_slice(), "the entry");
     assert_eq!(rt; &out[4096..8192], &file[4096..8192]);
-    assert_eq!(rt; &out[8192..], NEW_EXIT_SEVEN);
+    assert_eq!(rt; &out[8192..8206], NEW_EXIT_SEVEN);
+    assert_eq!(rt; &out[8206..], [0; 4082].as_slice());
     Ok(())
 }
 
@@ -160,6 +161,13 @@ fn takes_a_whole_page(rt: HostRuntime) -> Result<(), Fail> {
             818,
             b"\xCD\x80\xCD\x80\xCD\x80",
             b"\xCD\x80\xCD\x80\xCD\x80\x0F\x0B",
+        ),
+        // the new code is a page, no byte more
+        (
+            "two calls",
+            818,
+            b"\xCD\x80\xCD\x80\xF4\0",
+            b"\xCD\x80\xCD\x80\x0F\x0B",
         ),
     ] {
         let text = moves_then(alloc, count, last)?;

@@ -19,4 +19,3 @@ pub mod PartCodes
 pub mod PlacedParts
 pub mod PlacingSteps
 pub mod PlainPage
-pub mod PushLemmas

@@ -1,54 +1,16 @@
--- The written file: its headers, the old page of code, and the new code (gABI, "ELF Header", "Program Header").
-use Rattle.std.specs.Prelude.{◌≡◌, ◌⊎◌, ℕ, ◌+◌, ◌*◌, ◌/◌, ◌%◌, ◌<◌, ◌≤◌, List, [], ◌∷◌, ◌++◌, length, take, drop, replicate, slice_index, Some, None, Ok}
-use Rattle.std.specs.List.{flat_map}
-use Rattle.elf_image.specs.declared.header.ProgramHeader.{ProgramHeader}
+-- The written file: that of an image of the old page of code, the page of zeros, and the new code.
+use Rattle.std.specs.Prelude.{◌≡◌, ◌⊎◌, ℕ, ◌+◌, ◌*◌, ◌/◌, ◌<◌, ◌≤◌, List, [], ◌∷◌, ◌++◌, length, take, drop, replicate, slice_index, Some, None, Ok}
 use Rattle.elf_image.specs.declared.image.Segment.{Segment}
 use Rattle.elf_image.specs.declared.image.Image.{Image}
 use Rattle.elf_image.specs.declared.refusal.Room.TheVariants.{Any}
 use Rattle.elf_image.specs.Image.{image_of, code_byte_at, code_bytes}
 use Rattle.elf_image.specs.Plain.{room_segment}
-use Rattle.x86_meaning.specs.Spells.{word_bytes}
+use Rattle.elf_writer.specs.Written.{written}
 use Rattle.rewrite_core.specs.Places.{stop}
-
-abbrev pub half_bytes : ℕ → List ℕ
-half_bytes n = n % 256 ∷ n / 256 % 256 ∷ []
-
--- 7F 45 4C 46, then ELFCLASS32, ELFDATA2LSB, EV_CURRENT and zeros
-abbrev pub ident : List ℕ
-ident = 0x7F ∷ 0x45 ∷ 0x4C ∷ 0x46 ∷ 1 ∷ 1 ∷ 1 ∷ 0 ∷ 0 ∷ 0 ∷ 0 ∷ 0 ∷ 0 ∷ 0 ∷ 0 ∷ 0 ∷ []
-
--- ET_EXEC, EM_386, EV_CURRENT, the entry, the headers at 52, no sections, no flags
-unfoldable pub elf_header : ℕ → ℕ → List ℕ
-elf_header entry count =
-    ident ++ half_bytes 2 ++ half_bytes 3 ++ word_bytes 1 ++ word_bytes entry ++ word_bytes 52 ++ word_bytes 0 ++ word_bytes 0
-    ++ half_bytes 52 ++ half_bytes 32 ++ half_bytes count ++ half_bytes 0 ++ half_bytes 0 ++ half_bytes 0
-
--- p_type, p_offset, p_vaddr, p_paddr (the same), p_filesz, p_memsz, p_flags, p_align (a page)
-unfoldable pub header_bytes : ProgramHeader → List ℕ
-header_bytes h =
-    word_bytes h.kind ++ word_bytes h.offset ++ word_bytes h.address ++ word_bytes h.address ++ word_bytes h.file_size ++ word_bytes h.memory_size ++ word_bytes h.flags ++ word_bytes 4096
-
-abbrev pub segment_header : ℕ → ℕ → ℕ → ℕ → ℕ → ProgramHeader
-segment_header offset address file_size memory_size flags =
-    record { kind = 1; offset = offset; address = address; file_size = file_size; memory_size = memory_size; flags = flags }
 
 -- where the new code stands, and the run begins
 abbrev pub code_start : ℕ
 code_start = 0x60000000
-
--- the old page of code, which can't be run; the page of zeros; and the new code, of so many bytes
-unfoldable pub new_headers : ℕ → List ProgramHeader
-new_headers n = segment_header 0x1000 0x08049000 4096 4096 4 ∷ segment_header 0x2000 0x0804A000 0 4096 6 ∷ segment_header 0x2000 code_start n n 5 ∷ []
-
-abbrev pub table_bytes : ℕ → List ℕ
-table_bytes n = flat_map header_bytes (new_headers n)
-
-unfoldable pub zeros : ℕ → List ℕ
-zeros n = replicate n 0
-
--- a page of headers, the old page, and the new code
-unfoldable pub new_file : List ℕ → List ℕ → List ℕ
-new_file text code = elf_header code_start 3 ++ table_bytes (length code) ++ zeros 3948 ++ text ++ code
 
 -- so many bytes, in whole pages
 abbrev pub whole_pages : ℕ → ℕ
@@ -57,7 +19,7 @@ whole_pages n = 4096 * ((n + 4095) / 4096)
 abbrev pub in_pages : List ℕ → List ℕ
 in_pages bytes = take (whole_pages (length bytes)) (bytes ++ replicate (whole_pages (length bytes)) 0)
 
--- the image of that file
+-- the old page of code, which can't be run; the page of zeros; and the new code, with zeros up to the end of its last page
 abbrev pub kept_segment : List ℕ → Segment
 kept_segment text = record { start = 0x08049000; size = 4096; perm = record { 0 = 4 }; bytes = text }
 
@@ -66,6 +28,10 @@ code_segment code = record { start = code_start; size = whole_pages (length code
 
 abbrev pub new_image : List ℕ → List ℕ → Image
 new_image text code = record { segments = kept_segment text ∷ room_segment ∷ code_segment code ∷ []; entry = code_start }
+
+-- the file of that image
+abbrev pub new_file : List ℕ → List ℕ → List ℕ
+new_file text code = written (new_image text code).segments code_start
 
 -- the written file is accepted as its image, with no more code than may stand in the wide room
 abbrev pub NewFileIsAccepted : Type 0

@@ -7,3 +7,4 @@ pub mod Rewrites
 pub use Rattle.elf_image.specs.Refusals
 pub use Rattle.elf_image.specs.Image
 pub use Rattle.elf_image.specs.Plain
+pub use Rattle.elf_writer.specs.Written

@@ -53,7 +53,7 @@ pub fn rewrite(alloc: Global, bytes: &[u8]) -> Result<Rewritten, RewriteError>
     let Some(code) = lay(alloc, text)? else {
         return Err(RewriteError::Refused(Refusal::NotYet));
     };
-    let file = write_file(alloc, text, code.as_slice())?;
+    let file = write_file(alloc, text, code)?;
     Ok(Rewritten {
         file: ByteList::new(file),
     })

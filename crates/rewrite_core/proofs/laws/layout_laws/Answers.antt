@@ -3,7 +3,7 @@ use Rattle.rewrite_core.proofs.CodeLemmas.{new_code_there, new_code_all, new_cod
 use Rattle.rewrite_core.proofs.laws.layout_laws.Goals as goal
 
 pub returns-clause-accepted : goal.returns-clause-accepted
-returns-clause-accepted c = new_file_accepted
+returns-clause-accepted c = new_file_accepted c.writer_laws.ensures.accepted
 
 pub returns-clause-there : goal.returns-clause-there
 returns-clause-there c = new_code_there

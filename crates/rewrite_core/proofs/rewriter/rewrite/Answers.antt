@@ -1,11 +1,10 @@
-use Rattle.std.proofs.Common.{◌≡◌, ◌<◌, length, ap, ◌∙◌, sym, subst, arith, Ok}
+use Rattle.std.proofs.Common.{◌<◌, length, ap, ◌∙◌, sym, subst, arith, Ok}
 use Rattle.std.proofs.lemmas.List.Elements.{All-from_get_or}
 use Rattle.elf_image.specs.declared.refusal.Room.TheVariants.{Any, Source}
 use Rattle.elf_image.specs.Image.{image_of}
 use Rattle.rewrite_core.specs.Places.{IsLeftOut, IsLaid}
-use Rattle.rewrite_core.specs.Layout.{text_of, new_file}
+use Rattle.rewrite_core.specs.Layout.{text_of, new_file, new_image}
 use Rattle.rewrite_core.proofs.Outcomes.{plain_file, refused_by_image, other_form_refuses, left_out_refuses, laid_takes, text_is}
-use Rattle.rewrite_core.proofs.LayoutLemmas.{new_file_accepted}
 use Rattle.rewrite_core.proofs.Agreements.{new_file_agrees}
 use Rattle.rewrite_core.proofs.rewriter.rewrite.Goals as goal
 
@@ -35,10 +34,24 @@ returns-in_default c =
     let left_out : IsLeftOut c.as_slice-text.result.now = rw c.in_default.is at c.in_ok-code.ensures.laid in
     left_out_refuses file c.in-Ok.image c.in-Ok.ensures.is (plain_file file read.0 is_plain_file) (subst IsLeftOut text left_out)
 
-pub write_file-requires : goal.write_file-requires
-write_file-requires c =
+pub write_file-requires-clause-page : goal.write_file-requires-clause-page
+write_file-requires-clause-page c =
+    let file = c.args.bytes.now in
+    let is_plain_file = sym c.if-not-is_plain.ensures in
+    let read = c.image_laws.ensures.plain_is_read file Source c.in-Ok.image c.in-Ok.ensures.is is_plain_file in
+    let plain = plain_file file read.0 is_plain_file in
+    let text = c.as_slice-text.ensures ∙ text_is file c.in-Ok.image c.as_slice.result.now _ read.1 c.as_slice.ensures in
+    ap length text ∙ plain.whole
+
+pub write_file-requires-clause-some : goal.write_file-requires-clause-some
+write_file-requires-clause-some c =
     let laid : IsLaid c.as_slice-text.result.now c.in-Some.code.items = rw c.in-Some.is at c.in_ok-code.ensures.laid in
-    omega (arith, ap length c.as_slice-2.ensures.value, laid.few)
+    laid.some
+
+pub write_file-requires-clause-few : goal.write_file-requires-clause-few
+write_file-requires-clause-few c =
+    let laid : IsLaid c.as_slice-text.result.now c.in-Some.code.items = rw c.in-Some.is at c.in_ok-code.ensures.laid in
+    omega (arith, laid.few)
 
 pub returns : goal.returns
 returns c =
@@ -50,15 +63,15 @@ returns c =
     let code = c.in-Some.code.items in
     let found : IsLaid c.as_slice-text.result.now code = rw c.in-Some.is at c.in_ok-code.ensures.laid in
     let laid : IsLaid (text_of file) code = subst (λ t. IsLaid t code) text found in
-    let is : c.new.result ≡ new_file (text_of file) code = c.new.ensures ∙ c.in_ok-file.ensures ∙ ap (λ t. new_file t c.as_slice-2.result.now) text ∙ ap (new_file (text_of file)) c.as_slice-2.ensures.value in
+    let out = c.new.ensures in
     let bytes = All-from_get_or (λ b. b < 256) file 0 (λ i h. omega (arith, c.type_inv.bytes i)) in
     let takes = laid_takes file code plain laid in
     record {
       rewritable = takes;
       code = code;
       laid = laid;
-      is = is;
+      is = out ∙ c.in_ok-file.ensures.exact ∙ ap (λ t. new_file t code) text;
       read = c.in-Ok.ensures.is ∙ ap Ok read.1;
-      accepted = ap (λ f. image_of f Any) is ∙ new_file_accepted (text_of file) code plain.whole laid.some (omega (arith, laid.few));
+      accepted = ap (λ f. image_of f Any) out ∙ c.in_ok-file.ensures.accepted ∙ ap (λ t. Ok (new_image t code)) text;
       agrees = new_file_agrees file code bytes takes laid;
     }

@@ -1,0 +1,89 @@
+#!/usr/bin/env bash
+# Rewrites the examples with ./sw, and has readelf and objdump read the new files: neither has anything to object, and the program
+# headers are as Linux wants them. One new file is also run. Prints a line for each check; the status is 0 where none failed. It
+# stands outside the gate, since no proof speaks of these tools or of a kernel.
+set -u
+top=$(dirname "$(dirname "$(readlink -f "$0")")")
+sw=$top/sw
+for tool in readelf objdump; do
+    if ! command -v "$tool" >/dev/null; then
+        echo "skipped  $tool isn't found"
+        exit 0
+    fi
+done
+folder=$(mktemp -d) || exit 1
+trap 'rm -rf "$folder"' EXIT
+cd "$folder" || exit 1
+ulimit -c 0
+export LC_ALL=C
+failures=0
+
+# check NAME TEST..: says whether the test holds.
+check() {
+    local name=$1
+    shift
+    if "$@"; then
+        echo "ok       $name"
+    else
+        echo "FAILED   $name"
+        failures=$((failures + 1))
+    fi
+}
+
+# objects_to_nothing TOOL WORDS..: it ends with 0, says nothing on the standard error, and no warning.
+objects_to_nothing() {
+    "$@" >said.out 2>said.err || return 1
+    [ ! -s said.err ] && ! grep -qi warning said.out
+}
+
+# segments FILE: a line for each header of type LOAD: offset, address, sizes in the file and in memory, and alignment.
+segments() {
+    readelf -lW "$1" | awk '$1 == "LOAD" { print $2, $3, $5, $6, $NF }'
+}
+
+# are_in_order FILE: there are three segments; each begins where the last one ended or above, and is aligned to a page.
+are_in_order() {
+    local count=0 end=0 offset address in_file in_memory align
+    while read -r offset address in_file in_memory align; do
+        ((address >= end && align == 0x1000 && (address - offset) % align == 0)) || return 1
+        end=$((address + in_memory))
+        count=$((count + 1))
+    done < <(segments "$1")
+    [ "$count" -eq 3 ]
+}
+
+# is_no_larger FILE: than a page of headers and the pages that its segments have in it.
+is_no_larger() {
+    local size=4096 offset address in_file in_memory align
+    while read -r offset address in_file in_memory align; do
+        size=$((size + (in_file + 4095) / 4096 * 4096))
+    done < <(segments "$1")
+    [ "$(wc -c <"$1")" -le "$size" ]
+}
+
+# ends_with FILE STATUS
+ends_with() {
+    local status
+    { "./$1" >/dev/null; } 2>/dev/null
+    status=$?
+    [ "$status" -eq "$2" ]
+}
+
+for name in exit7 hello jumps other_call; do
+    cp "$top/examples/$name" "$name"
+    check "$name is rewritten" "$sw" rewrite "$name" "$name.new" "$name.map"
+    check "$name: readelf objects to nothing" objects_to_nothing readelf -lW "$name.new"
+    check "$name: objdump objects to nothing" objects_to_nothing objdump -x "$name.new"
+    check "$name: the segments are in order" are_in_order "$name.new"
+    check "$name: the file is no larger than its pages" is_no_larger "$name.new"
+done
+
+chmod +x exit7 exit7.new
+if ends_with exit7 7; then
+    check "exit7: the new file ends with 7" ends_with exit7.new 7
+else
+    echo "skipped  the run of a file: this system doesn't run i386 files in $folder"
+fi
+
+echo "$failures failed"
+[ "$failures" -eq 0 ]
