@@ -13,24 +13,24 @@ use Rattle.sw_top.specs.Performs.{limit, map_text, Finishes, stored_out, stored_
 use Rattle.sw_top.specs.Serves.{Serves}
 use Rattle.sw_top.specs.Headline.{Rewrote}
 
-stored_file : (a : Told) (name bytes : List ℕ) → get (with_file a name bytes).files name ≡ Some bytes
+pub stored_file : (a : Told) (name bytes : List ℕ) → get (with_file a name bytes).files name ≡ Some bytes
 unfolding with_file
 stored_file a name bytes = get-insert_same a.files name bytes
 
-other_files : (a : Told) (name bytes q : List ℕ) → q ≢ name → get (with_file a name bytes).files q ≡ get a.files q
+pub other_files : (a : Told) (name bytes q : List ℕ) → q ≢ name → get (with_file a name bytes).files q ≡ get a.files q
 unfolding with_file
 other_files a name bytes q h = get-insert_other a.files name bytes q h
 
 -- the files after two stores, one after another
 module _ (a : Told) (names : Names) (out : List ℕ) where
-  has_map : get (stored_both names out a).files names.map ≡ Some map_text
+  pub has_map : get (stored_both names out a).files names.map ≡ Some map_text
   has_map = stored_file (called (stored_out names out a)) names.map map_text
 
-  has_out : names.to ≢ names.map → get (stored_both names out a).files names.to ≡ Some out
+  pub has_out : names.to ≢ names.map → get (stored_both names out a).files names.to ≡ Some out
   unfolding called with_file
   has_out apart = other_files (called (stored_out names out a)) names.map map_text names.to apart ∙ stored_file (called (called a)) names.to out
 
-  keeps : (q : List ℕ) → q ≢ names.to → q ≢ names.map → get (stored_both names out a).files q ≡ get a.files q
+  pub keeps : (q : List ℕ) → q ≢ names.to → q ≢ names.map → get (stored_both names out a).files q ≡ get a.files q
   unfolding called with_file
   keeps q p r = other_files (called (stored_out names out a)) names.map map_text q r ∙ other_files (called (called a)) names.to out q p
 
