@@ -13,6 +13,8 @@ const HOST_FAULT: &[u8] = b"sw: host fault";
 
 const USAGE: &[u8] = b"sw: usage";
 
+const TOO_LONG: &[u8] = b"sw: file too long";
+
 #[test]
 fn rewrites_a_file(rt: HostRuntime) -> Result<(), Fail> {
     let alloc = rt.alloc();
@@ -203,6 +205,32 @@ fn refuses_other_files(rt: HostRuntime) -> Result<(), Fail> {
     expect_refusal(&rt, alloc, "52 zeros", &zeros, Refusal::Magic)
 }
 
+// 16 MiB are judged as any file, and one byte more is too long, whatever the bytes are.
+#[test]
+fn measures_its_input(rt: HostRuntime) -> Result<(), Fail> {
+    let alloc = rt.alloc();
+    let mut file = file_of(alloc, EXIT_SEVEN)?;
+    file.resize(16_777_216, 0)?;
+    expect_refusal(&rt, alloc, "16 MiB", file.as_slice(), Refusal::NotYet)?;
+    file.push(0)?;
+    let from = file.as_slice();
+    for (name, failing, end, line) in [
+        ("a byte more", [0, 0], End::TooLong, TOO_LONG),
+        ("its line", [2, 0], End::TooLong, b"".as_slice()),
+        ("its load", [1, 0], End::Host, HOST_FAULT),
+    ] {
+        let words = REWRITE;
+        let left = nothing_stored(end, from, line);
+        let call = Call {
+            words,
+            from,
+            failing,
+        };
+        expect(&rt, alloc, name, call, left)?;
+    }
+    Ok(())
+}
+
 // Fields of the headers: the byte that is changed, and what the file is refused for then, if it isn't plain any more.
 #[test]
 fn reads_each_field(rt: HostRuntime) -> Result<(), Fail> {
@@ -283,6 +311,7 @@ fn reads_its_words(rt: HostRuntime) -> Result<(), Fail> {
     let failing = [0, 0];
     for (name, words) in [
         ("none", [].as_slice()),
+        ("an unknown word", &["copy"]),
         ("two words", &["rewrite", "in"]),
         ("three words", &["rewrite", "in", "out"]),
         ("five words", &["rewrite", "in", "out", "map", "in"]),
@@ -435,6 +464,7 @@ fn has_statuses(rt: HostRuntime) {
         (End::Done, 0),
         (End::Memory, 120),
         (End::Host, 121),
+        (End::TooLong, 122),
         (End::Refused(Refusal::Short), 124),
         (End::Refused(Refusal::Permission), 124),
         (End::Refused(Refusal::NotYet), 124),
