@@ -205,29 +205,19 @@ fn refuses_other_files(rt: HostRuntime) -> Result<(), Fail> {
     expect_refusal(&rt, alloc, "52 zeros", &zeros, Refusal::Magic)
 }
 
-// 16 MiB are judged as any file, and one byte more is too long, whatever the bytes are.
+// One byte more than 16 MiB is too long, whatever the bytes are.
 #[test]
 fn measures_its_input(rt: HostRuntime) -> Result<(), Fail> {
     let alloc = rt.alloc();
-    let mut file = file_of(alloc, EXIT_SEVEN)?;
-    file.resize(16_777_216, 0)?;
-    expect_refusal(&rt, alloc, "16 MiB", file.as_slice(), Refusal::NotYet)?;
-    file.push(0)?;
-    let from = file.as_slice();
-    for (name, failing, end, line) in [
-        ("a byte more", [0, 0], End::TooLong, TOO_LONG),
-        ("its line", [2, 0], End::TooLong, b"".as_slice()),
-        ("its load", [1, 0], End::Host, HOST_FAULT),
-    ] {
-        let words = REWRITE;
-        let left = nothing_stored(end, from, line);
-        let call = Call {
-            words,
-            from,
-            failing,
-        };
-        expect(&rt, alloc, name, call, left)?;
-    }
+    let file = vec![in alloc; 0u8; 16_777_217]?;
+    let mut host = MemoryHost::new(alloc);
+    host.add_file("in", file.as_slice())?;
+    let end = end_of(alloc, REWRITE, &mut host)?;
+    assert_eq!(rt; end, End::TooLong);
+    assert_eq!(rt; status(&end), 122);
+    assert_eq!(rt; line_of(&host), TOO_LONG);
+    assert_eq!(rt; host.file("out"), None);
+    assert_eq!(rt; host.file("map"), None);
     Ok(())
 }
 
