@@ -135,7 +135,7 @@ truncate -s 33554432 double
 refuses "a short file" 124 "sw: refused Short" empty
 refuses "a text" 124 "sw: refused Magic" text
 refuses "the magic and zeros" 124 "sw: refused Class" magic
-refuses "half a file" 124 "sw: refused NotYet" half
+refuses "half a file" 124 "sw: refused SegmentFile" half
 refuses "a byte too many" 124 "sw: refused NotYet" long
 refuses "exactly 16 MiB" 124 "sw: refused NotYet" greatest
 refuses "16 MiB and a byte" 122 "sw: file too long" over
@@ -184,6 +184,12 @@ rm -f map
 "$sw" rewrite exit7 /dev/stdout map | cat >received
 status=${PIPESTATUS[0]}
 check "OUT into a pipe as /dev/stdout: 0, and the new file came through" through 0 received
+{
+    sleep 0.2
+    "$sw" rewrite exit7 /dev/stdout map 2>said.err
+    echo $? >left
+} | true
+check "OUT into a pipe whose reader has left: 121" [ "$(cat left)$(cat said.err)" = "121sw: host fault" ]
 rm -f out
 [ "$("$sw" rewrite exit7 out /dev/stdout | cat)" = "secondwrite-map 1" ]
 check "MAP into a pipe as /dev/stdout: its text came through" [ $? -eq 0 ]
