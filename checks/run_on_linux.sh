@@ -39,6 +39,24 @@ stores_nothing() {
     calls "$@" && [ ! -e out ] && [ ! -e map ]
 }
 
+# keeps STATUS LINE WORDS..: as calls, and an old file out and an old file map are as they were.
+keeps() {
+    echo "an old OUT" >out
+    echo "an old MAP" >map
+    calls "$@" && [ "$(cat out)" = "an old OUT" ] && [ "$(cat map)" = "an old MAP" ]
+}
+
+# refuses NAME STATUS LINE FILE: the file is turned away so, whether OUT and MAP are there or not.
+refuses() {
+    check "$1: $2, nothing stored" stores_nothing "$2" "$3" rewrite "$4" out map
+    check "$1: $2, older files stay" keeps "$2" "$3" rewrite "$4" out map
+}
+
+# through STATUS NAME: the program ended so, and what came through the pipe is the new file, or an equal one.
+through() {
+    [ "$status" -eq "$1" ] && cmp -s "$2" exit7.new && [ "$(cat map)" = "secondwrite-map 1" ]
+}
+
 # writes NAME: the example is rewritten, to a file that isn't executable, with a map without entries.
 writes() {
     calls 0 "" rewrite "$1" "$1.new" "$1.map" || return 1
@@ -109,19 +127,80 @@ echo "this text is no executable file, though it is longer than the header of on
 check "bad words: 125, nothing stored" stores_nothing 125 "sw: usage" rewrite exit7 out out
 check "no form: 125, nothing stored" stores_nothing 125 "sw: usage" lift exit7 out
 check "a word that isn't text: 115, nothing said" stores_nothing 115 "" rewrite exit7 out $'\xff'
-check "a short file: 124, nothing stored" stores_nothing 124 "sw: refused Short" rewrite empty out map
-check "a text: 124, nothing stored" stores_nothing 124 "sw: refused Magic" rewrite text out map
-check "half a file: 124, nothing stored" stores_nothing 124 "sw: refused SegmentFile" rewrite half out map
-check "a byte too many: 124, nothing stored" stores_nothing 124 "sw: refused NotYet" rewrite long out map
+{ printf '\177ELF'; head -c 48 /dev/zero; } >magic
+cp exit7 greatest
+truncate -s 16777216 greatest
+cp exit7 over
+truncate -s 16777217 over
+cp exit7 double
+truncate -s 33554432 double
+refuses "a short file" 124 "sw: refused Short" empty
+refuses "a text" 124 "sw: refused Magic" text
+refuses "the magic and zeros" 124 "sw: refused Class" magic
+refuses "half a file" 124 "sw: refused SegmentFile" half
+refuses "a byte too many" 124 "sw: refused NotYet" long
+refuses "exactly 16 MiB" 124 "sw: refused NotYet" greatest
+refuses "16 MiB and a byte" 122 "sw: file too long" over
+refuses "32 MiB" 122 "sw: file too long" double
+refuses "a device without end" 122 "sw: file too long" /dev/zero
+check "bad words: 125, older files stay" keeps 125 "sw: usage" rewrite exit7 out out
+check "a missing file: 121, older files stay" keeps 121 "sw: host fault" rewrite nothing out map
 check "a missing file: 121, nothing stored" stores_nothing 121 "sw: host fault" rewrite nothing out map
 check "a folder as the file: 121, nothing stored" stores_nothing 121 "sw: host fault" rewrite . out map
 check "OUT in a missing folder: 121, nothing stored" stores_nothing 121 "sw: host fault" rewrite exit7 none/out map
 check "OUT on a full device: 121, no map stored" stores_nothing 121 "sw: host fault" rewrite exit7 /dev/full map
+check "a folder as OUT: 121, nothing stored" stores_nothing 121 "sw: host fault" rewrite exit7 . map
+for name in none/map /dev/full .; do
+    rm -f out
+    check "MAP as $name: 121" calls 121 "sw: host fault" rewrite exit7 out "$name"
+    check "MAP as $name: the new file stands whole" cmp -s out exit7.new
+done
+
+if [ "$(id -u)" -eq 0 ]; then
+    echo "skipped  files without permission: root may open them"
+else
+    cp exit7 closed
+    chmod a-r closed
+    mkdir locked
+    chmod a-w locked
+    echo "an old OUT" >kept
+    chmod a-w kept
+    check "IN without permission: 121, nothing stored" stores_nothing 121 "sw: host fault" rewrite closed out map
+    check "OUT in a folder without permission: 121, no map stored" stores_nothing 121 "sw: host fault" rewrite exit7 locked/out map
+    check "OUT without permission: 121, no map stored" stores_nothing 121 "sw: host fault" rewrite exit7 kept map
+    check "OUT without permission: as it was" [ "$(cat kept)" = "an old OUT" ]
+    rm -f out
+    check "MAP in a folder without permission: 121" calls 121 "sw: host fault" rewrite exit7 out locked/map
+    check "MAP in a folder without permission: the new file stands whole" cmp -s out exit7.new
+    chmod u+w locked
+fi
+
+mkfifo pipe
+rm -f map
+cat pipe >received &
+"$sw" rewrite exit7 pipe map
+status=$?
+wait
+check "OUT into a named pipe with a reader: 0, and the new file came through" through 0 received
+rm -f map
+"$sw" rewrite exit7 /dev/stdout map | cat >received
+status=${PIPESTATUS[0]}
+check "OUT into a pipe as /dev/stdout: 0, and the new file came through" through 0 received
+{
+    sleep 0.2
+    "$sw" rewrite exit7 /dev/stdout map 2>said.err
+    echo $? >left
+} | true
+check "OUT into a pipe whose reader has left: 121" [ "$(cat left)$(cat said.err)" = "121sw: host fault" ]
 rm -f out
-check "MAP in a missing folder: 121" calls 121 "sw: host fault" rewrite exit7 out none/map
-check "MAP in a missing folder: the new file stands whole" cmp -s out exit7.new
+[ "$("$sw" rewrite exit7 out /dev/stdout | cat)" = "secondwrite-map 1" ]
+check "MAP into a pipe as /dev/stdout: its text came through" [ $? -eq 0 ]
+check "MAP into a pipe as /dev/stdout: the new file stands whole" cmp -s out exit7.new
+
 "$sw" rewrite empty out map 2>/dev/full
 check "a line that fails changes nothing: 124" [ $? -eq 124 ]
+"$sw" rewrite nothing out map 2>/dev/full
+check "a line that fails after a fault changes nothing: 121" [ $? -eq 121 ]
 "$sw" rewrite <(head -c 100 exit7; sleep 0.2; tail -c +101 exit7) out map
 check "a file that comes in pieces: 0" [ $? -eq 0 ]
 check "a file that comes in pieces: the same new file" cmp -s out exit7.new

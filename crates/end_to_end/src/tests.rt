@@ -13,6 +13,8 @@ const HOST_FAULT: &[u8] = b"sw: host fault";
 
 const USAGE: &[u8] = b"sw: usage";
 
+const TOO_LONG: &[u8] = b"sw: file too long";
+
 #[test]
 fn rewrites_a_file(rt: HostRuntime) -> Result<(), Fail> {
     let alloc = rt.alloc();
@@ -211,6 +213,22 @@ fn refuses_other_files(rt: HostRuntime) -> Result<(), Fail> {
     expect_refusal(&rt, alloc, "52 zeros", &zeros, Refusal::Magic)
 }
 
+// One byte more than 16 MiB is too long, whatever the bytes are.
+#[test]
+fn measures_its_input(rt: HostRuntime) -> Result<(), Fail> {
+    let alloc = rt.alloc();
+    let file = vec![in alloc; 0u8; 16_777_217]?;
+    let mut host = MemoryHost::new(alloc);
+    host.add_file("in", file.as_slice())?;
+    let end = end_of(alloc, REWRITE, &mut host)?;
+    assert_eq!(rt; end, End::TooLong);
+    assert_eq!(rt; status(&end), 122);
+    assert_eq!(rt; line_of(&host), TOO_LONG);
+    assert_eq!(rt; host.file("out"), None);
+    assert_eq!(rt; host.file("map"), None);
+    Ok(())
+}
+
 // Fields of the headers: the byte that is changed, and what the file is refused for then, if it isn't plain any more.
 #[test]
 fn reads_each_field(rt: HostRuntime) -> Result<(), Fail> {
@@ -291,6 +309,7 @@ fn reads_its_words(rt: HostRuntime) -> Result<(), Fail> {
     let failing = [0, 0];
     for (name, words) in [
         ("none", [].as_slice()),
+        ("an unknown word", &["copy"]),
         ("two words", &["rewrite", "in"]),
         ("three words", &["rewrite", "in", "out"]),
         ("five words", &["rewrite", "in", "out", "map", "in"]),
@@ -443,6 +462,7 @@ fn has_statuses(rt: HostRuntime) {
         (End::Done, 0),
         (End::Memory, 120),
         (End::Host, 121),
+        (End::TooLong, 122),
         (End::Refused(Refusal::Short), 124),
         (End::Refused(Refusal::Permission), 124),
         (End::Refused(Refusal::NotYet), 124),

@@ -13,43 +13,24 @@ use Rattle.sw_top.specs.Performs.{limit, map_text, Finishes, stored_out, stored_
 use Rattle.sw_top.specs.Serves.{Serves}
 use Rattle.sw_top.specs.Headline.{Rewrote}
 
-plain_size : (file : List ℕ) → is_plain file ≡ true → length file ≡ 8192
-unfolding is_plain
-plain_size file e = eqb-true (length file) 8192 (and_parts _ _ (and_parts _ _ (and_parts _ _ e).0).0).0
-
--- a front that is shorter than it may be is the whole
-whole : (n : ℕ) (file full : List ℕ) → take n full ≡ file → length file < n → full ≡ file
-whole n file full e h =
-    let size : min n (length full) ≡ length file = sym (length-take n full) ∙ ap length e in
-    sym (take_all n full (omega (arith, size, h))) ∙ e
-
-had_file : (b : Bool) (o : Option (List ℕ)) (n : ℕ) (file : List ℕ) → cond b None (option_map (take n) o) ≡ Some file → length file < n → o ≡ Some file
-had_file true o n file e h = cc
-had_file false None n file e h = cc
-had_file false (Some full) n file e h = let same : take n full ≡ file = cc in ap Some (whole n file full same h)
-
-loaded_whole : (a : Told) (name : List ℕ) (n : ℕ) (file : List ℕ) → loaded (called a) name n ≡ Some file → length file < n → get a.files name ≡ Some file
-unfolding loaded called
-loaded_whole a name n file e h = had_file (fails (called a)) (get a.files name) n file e h
-
-stored_file : (a : Told) (name bytes : List ℕ) → get (with_file a name bytes).files name ≡ Some bytes
+pub stored_file : (a : Told) (name bytes : List ℕ) → get (with_file a name bytes).files name ≡ Some bytes
 unfolding with_file
 stored_file a name bytes = get-insert_same a.files name bytes
 
-other_files : (a : Told) (name bytes q : List ℕ) → q ≢ name → get (with_file a name bytes).files q ≡ get a.files q
+pub other_files : (a : Told) (name bytes q : List ℕ) → q ≢ name → get (with_file a name bytes).files q ≡ get a.files q
 unfolding with_file
 other_files a name bytes q h = get-insert_other a.files name bytes q h
 
 -- the files after two stores, one after another
 module _ (a : Told) (names : Names) (out : List ℕ) where
-  has_map : get (stored_both names out a).files names.map ≡ Some map_text
+  pub has_map : get (stored_both names out a).files names.map ≡ Some map_text
   has_map = stored_file (called (stored_out names out a)) names.map map_text
 
-  has_out : names.to ≢ names.map → get (stored_both names out a).files names.to ≡ Some out
+  pub has_out : names.to ≢ names.map → get (stored_both names out a).files names.to ≡ Some out
   unfolding called with_file
   has_out apart = other_files (called (stored_out names out a)) names.map map_text names.to apart ∙ stored_file (called (called a)) names.to out
 
-  keeps : (q : List ℕ) → q ≢ names.to → q ≢ names.map → get (stored_both names out a).files q ≡ get a.files q
+  pub keeps : (q : List ℕ) → q ≢ names.to → q ≢ names.map → get (stored_both names out a).files q ≡ get a.files q
   unfolding called with_file
   keeps q p r = other_files (called (stored_out names out a)) names.map map_text q r ∙ other_files (called (called a)) names.to out q p
 
@@ -59,13 +40,12 @@ rewrote words a b s =
     let l = f.is_loaded in
     let w = l.written in
     let at : b ≡ stored_both s.names f.out a = s.reports ∙ f.after in
-    let size = plain_size l.file w.rewritable.plain in
     record {
       names = s.names;
       form = s.form;
       file = l.file;
       out = f.out;
-      had = loaded_whole a s.names.from limit l.file l.gave (omega (arith, size));
+      had = l.is_input.whole;
       has = ap (λ t. get t.files s.names.to) at ∙ has_out a s.names f.out s.form.apart;
       map = ap (λ t. get t.files s.names.map) at ∙ has_map a s.names f.out;
       others = λ q p r. ap (λ t. get t.files q) at ∙ keeps a s.names f.out q p r;

@@ -1,5 +1,7 @@
 -- What the calls of a rewriting tell together.
-use Rattle.std.proofs.Common.{◌≡◌, ◌≤◌, ℕ, true, false, List, Result, Ok, Err, Some, None, Vec, subst, arith}
+use Rattle.std.proofs.Common.{◌≡◌, ◌≤◌, ◌<◌, ◌+◌, ℕ, Bool, true, false, cond, List, take, length, min, Option, option_map, Result, Ok, Err, Some, None, Vec, refl, sym, ap, ◌∙◌, subst, arith, length-take}
+use Rattle.std.proofs.lemmas.List.{take_all}
+use Rattle.std.specs.FinMap.{get}
 use Rattle.std.specs.declared.alloc.Global.{Global}
 use Rattle.elf_image.specs.declared.refusal.Refusal.{Refusal}
 use Rattle.rewrite_core.specs.Rewrites.{IsRefused, IsWritten}
@@ -8,10 +10,10 @@ use Rattle.sw_host.specs.declared.host.HostFault.TheVariants.{Failed, Memory}
 use Rattle.sw_host.specs.Told.{Told, HasCause, Rose}
 use Rattle.sw_host.specs.Calls.{called, fails, loaded, with_file, Spoils, Loads, Stores}
 use Rattle.sw_top.specs.declared.end.End.{End}
-use Rattle.sw_top.specs.declared.end.End.TheVariants.{Done, Usage, Refused, Host, Memory as NoMemory}
+use Rattle.sw_top.specs.declared.end.End.TheVariants.{Done, Usage, TooLong, Refused, Host, Memory as NoMemory}
 use Rattle.sw_top.specs.Words.{Names, IsRewrite}
 use Rattle.sw_top.specs.Serves.{Serves, Reports}
-use Rattle.sw_top.specs.Performs.{limit, map_text, input, stored_out, IsLoaded, Finishes, Refuses, Fails, load_fails, out_fails, map_fails, Wants, before_stores, in_out, in_map, Performs}
+use Rattle.sw_top.specs.Performs.{limit, greatest_size, map_text, input, stored_out, IsInput, IsLoaded, PassesLimit, Finishes, Refuses, SpoilsOut, SpoilsMap, Fails, load_fails, out_fails, map_fails, Wants, before_stores, in_out, in_map, Performs}
 
 -- a count of faults never falls
 pub has_cause : {T : Type 0} (before now : ℕ) (r : Result T HostFault) → HasCause before now r → before ≤ now
@@ -26,6 +28,40 @@ rose_before a b c h r = omega arith
 pub rose_after : (a b c : ℕ) → Rose a b → b ≤ c → Rose a c
 rose_after a b c r h = omega arith
 
+-- a front that is shorter than it may be is the whole
+whole : (n : ℕ) (file full : List ℕ) → take n full ≡ file → length file < n → full ≡ file
+whole n file full e h =
+    let size : min n (length full) ≡ length file = sym (length-take n full) ∙ ap length e in
+    sym (take_all n full (omega (arith, size, h))) ∙ e
+
+had_file : (b : Bool) (o : Option (List ℕ)) (n : ℕ) (file : List ℕ) → cond b None (option_map (take n) o) ≡ Some file → length file < n → o ≡ Some file
+had_file true o n file e h = cc
+had_file false None n file e h = cc
+had_file false (Some full) n file e h = let same : take n full ≡ file = cc in ap Some (whole n file full same h)
+
+-- a load that gave fewer bytes than were asked for gave the file
+loaded_whole : (a : Told) (name : List ℕ) (n : ℕ) (file : List ℕ) → loaded (called a) name n ≡ Some file → length file < n → get a.files name ≡ Some file
+unfolding loaded called
+loaded_whole a name n file e h = had_file (fails (called a)) (get a.files name) n file e h
+
+-- a front that is longer than m is one of a file that is longer, and has all n bytes where n is the next number
+longer : (n m : ℕ) (front full : List ℕ) → take n full ≡ front → n ≡ m + 1 → m < length front → (length front ≡ n) × (m < length full)
+longer n m front full e next h =
+    let size : min n (length full) ≡ length front = sym (length-take n full) ∙ ap length e in
+    (omega (arith, size, next, h), omega (arith, size, next, h))
+
+had_longer : (b : Bool) (o : Option (List ℕ)) (n m : ℕ) (front : List ℕ) → cond b None (option_map (take n) o) ≡ Some front → n ≡ m + 1 → m < length front → (length front ≡ n) × (full : List ℕ) × (o ≡ Some full) × (m < length full)
+had_longer true o n m front e next h = cc
+had_longer false None n m front e next h = cc
+had_longer false (Some full) n m front e next h =
+    let same : take n full ≡ front = cc in
+    let both = longer n m front full same next h in
+    (both.0, full, refl, both.1)
+
+loaded_longer : (a : Told) (name : List ℕ) (n m : ℕ) (front : List ℕ) → loaded (called a) name n ≡ Some front → n ≡ m + 1 → m < length front → (length front ≡ n) × (full : List ℕ) × (get a.files name ≡ Some full) × (m < length full)
+unfolding loaded called
+loaded_longer a name n m front e next h = had_longer (fails (called a)) (get a.files name) n m front e next h
+
 module _ (names : Names) (a : Told) where
   pub load_failed : (b : Told) → Loads names.from limit (Err Failed) a b → Fails names a b
   load_failed b p = load_fails (subst (λ t. loaded t names.from limit ≡ None) p.0 p.1) p.0
@@ -33,22 +69,36 @@ module _ (names : Names) (a : Told) where
   gave : (v : Vec ℕ Global) (b : Told) → Loads names.from limit (Ok v) a b → input names a ≡ Some v.items
   gave v b p = subst (λ t. loaded t names.from limit ≡ Some v.items) p.0 p.1
 
-  pub refused : (v : Vec ℕ Global) (r : Refusal) (b : Told) → IsRefused v.items r → Loads names.from limit (Ok v) a b → Refuses names r a b
-  refused v r b h p = record { file = v.items; gave = gave v b p; refused = h; after = p.0 }
+  pub too_long : (v : Vec ℕ Global) (b : Told) → greatest_size < length v.items → Loads names.from limit (Ok v) a b → PassesLimit names a b
+  too_long v b h p =
+      let given = gave v b p in
+      let found = loaded_longer a names.from limit greatest_size v.items given refl h in
+      record { overlong = record { front = v.items; gave = given; full = found.0; file = found.1; whole = found.2; over = found.3 }; after = p.0 }
+
+  is_input : (v : Vec ℕ Global) (b : Told) → length v.items ≤ greatest_size → Loads names.from limit (Ok v) a b → IsInput names a v.items
+  is_input v b h p =
+      let given = gave v b p in
+      record { gave = given; fits = h; whole = loaded_whole a names.from limit v.items given (omega (arith, h)) }
+
+  pub refused : (v : Vec ℕ Global) (r : Refusal) (b : Told) → length v.items ≤ greatest_size → IsRefused v.items r → Loads names.from limit (Ok v) a b → Refuses names r a b
+  refused v r b fits h p = record { file = v.items; is_input = is_input v b fits p; refused = h; after = p.0 }
 
   pub wants_memory : (b : Told) → b ≡ called a → Wants names a b
   wants_memory b p = before_stores p
 
   -- a file was loaded and rewritten
-  module _ (v : Vec ℕ Global) (out : List ℕ) (w : IsWritten v.items out) where
+  module _ (v : Vec ℕ Global) (out : List ℕ) (fits : length v.items ≤ greatest_size) (w : IsWritten v.items out) where
     is_loaded : (b : Told) → Loads names.from limit (Ok v) a b → IsLoaded names a out
-    is_loaded b p = record { file = v.items; gave = gave v b p; written = w }
+    is_loaded b p = record { file = v.items; is_input = is_input v b fits p; written = w }
+
+    spoils_out : (b c : Told) → Loads names.from limit (Ok v) a b → Spoils names.to (called b) c → SpoilsOut names a c
+    spoils_out b c p q = record { out = out; is_loaded = is_loaded b p; after = subst (λ t. Spoils names.to (called t) c) p.0 q }
 
     pub out_failed : (b c : Told) → Loads names.from limit (Ok v) a b → Stores names.to out (Err Failed) b c → Fails names a c
-    out_failed b c p q = out_fails out (is_loaded b p) (subst (λ t. fails (called t) ≡ true) p.0 q.1) (subst (λ t. Spoils names.to (called t) c) p.0 q.0)
+    out_failed b c p q = out_fails (spoils_out b c p q.0) (subst (λ t. fails (called t) ≡ true) p.0 q.1)
 
     pub out_wants : (b c : Told) → Loads names.from limit (Ok v) a b → Stores names.to out (Err Memory) b c → Wants names a c
-    out_wants b c p q = in_out out (is_loaded b p) (subst (λ t. Spoils names.to (called t) c) p.0 q)
+    out_wants b c p q = in_out (spoils_out b c p q)
 
     stored : (b c : Told) → Loads names.from limit (Ok v) a b → Stores names.to out (Ok tt) b c → c ≡ stored_out names out a
     stored b c p q = subst (λ t. c ≡ with_file (called t) names.to out) p.0 q.0
@@ -56,13 +106,16 @@ module _ (names : Names) (a : Told) where
     out_ok : (b c : Told) → Loads names.from limit (Ok v) a b → Stores names.to out (Ok tt) b c → fails (called (called a)) ≡ false
     out_ok b c p q = subst (λ t. fails (called t) ≡ false) p.0 q.1
 
+    spoils_map : (b c d : Told) → Loads names.from limit (Ok v) a b → Stores names.to out (Ok tt) b c → Spoils names.map (called c) d → SpoilsMap names a d
+    spoils_map b c d p q r =
+        record { out = out; is_loaded = is_loaded b p; first_store = out_ok b c p q; after = subst (λ t. Spoils names.map (called t) d) (stored b c p q) r }
+
     pub map_failed : (b c d : Told) → Loads names.from limit (Ok v) a b → Stores names.to out (Ok tt) b c → Stores names.map map_text (Err Failed) c d → Fails names a d
-    map_failed b c d p q r =
-        let at = stored b c p q in
-        map_fails out (is_loaded b p) (out_ok b c p q) (subst (λ t. fails (called t) ≡ true) at r.1) (subst (λ t. Spoils names.map (called t) d) at r.0)
+    unfolding spoils_map
+    map_failed b c d p q r = map_fails (spoils_map b c d p q r.0) (subst (λ t. fails (called t) ≡ true) (stored b c p q) r.1)
 
     pub map_wants : (b c d : Told) → Loads names.from limit (Ok v) a b → Stores names.to out (Ok tt) b c → Stores names.map map_text (Err Memory) c d → Wants names a d
-    map_wants b c d p q r = in_map out (is_loaded b p) (out_ok b c p q) (subst (λ t. Spoils names.map (called t) d) (stored b c p q) r)
+    map_wants b c d p q r = in_map (spoils_map b c d p q r)
 
     pub finished : (b c d : Told) → Loads names.from limit (Ok v) a b → Stores names.to out (Ok tt) b c → Stores names.map map_text (Ok tt) c d → Finishes names a d
     finished b c d p q r =
@@ -73,6 +126,7 @@ module _ (names : Names) (a : Told) where
 pub served : (words : List (List ℕ)) (names : Names) (end : End) (a b c : Told) → IsRewrite words names → Performs names end a b → Reports end b c → Serves words end a c
 served words names Done a b c f p r = record { names = names; form = f; before_line = b; performs = p; reports = r }
 served words names Usage a b c f p r = absurd p
+served words names TooLong a b c f p r = record { names = names; form = f; before_line = b; performs = p; reports = r }
 served words names (Refused x) a b c f p r = record { names = names; form = f; before_line = b; performs = p; reports = r }
 served words names Host a b c f p r = record { names = names; form = f; before_line = b; performs = p; reports = r }
 served words names NoMemory a b c f p r = record { names = names; form = f; before_line = b; performs = p; reports = r }

@@ -3,11 +3,12 @@ use Rattle.std.specs.Prelude.{ℕ, List, ◌++◌, Option, Some, None, codes}
 use Rattle.elf_image.specs.declared.refusal.Refusal.{Refusal}
 use Rattle.elf_image.specs.Names.{refusal_name}
 use Rattle.sw_top.specs.declared.end.End.{End}
-use Rattle.sw_top.specs.declared.end.End.TheVariants.{Done, Usage, Refused, Host, Memory}
+use Rattle.sw_top.specs.declared.end.End.TheVariants.{Done, Usage, TooLong, Refused, Host, Memory}
 
 abbrev pub status_of : End → ℕ
 status_of Done = 0
 status_of Usage = 125
+status_of TooLong = 122
 status_of (Refused r) = 124
 status_of Host = 121
 status_of Memory = 120
@@ -18,6 +19,7 @@ refusal_line r = codes "sw: refused " ++ refusal_name r
 abbrev pub line_of : End → Option (List ℕ)
 line_of Done = None
 line_of Usage = Some (codes "sw: usage")
+line_of TooLong = Some (codes "sw: file too long")
 line_of (Refused r) = Some (refusal_line r)
 line_of Host = Some (codes "sw: host fault")
 line_of Memory = Some (codes "sw: no memory")

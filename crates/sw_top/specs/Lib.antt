@@ -2,6 +2,8 @@ pub mod Words
 pub mod Ends
 pub mod Performs
 pub mod Serves
+pub mod Leaves
+pub mod Decides
 pub mod Headline
 pub use Rattle.sw_host.specs.Told
 pub use Rattle.sw_host.specs.Calls

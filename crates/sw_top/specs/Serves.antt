@@ -4,7 +4,7 @@ use Rattle.sw_host.specs.declared.host.HostFault.{HostFault}
 use Rattle.sw_host.specs.Told.{Told}
 use Rattle.sw_host.specs.Calls.{Lines}
 use Rattle.sw_top.specs.declared.end.End.{End}
-use Rattle.sw_top.specs.declared.end.End.TheVariants.{Done, Usage, Refused, Host, Memory}
+use Rattle.sw_top.specs.declared.end.End.TheVariants.{Done, Usage, TooLong, Refused, Host, Memory}
 use Rattle.sw_top.specs.Words.{Names, IsRewrite, HasForm}
 use Rattle.sw_top.specs.Ends.{line_of}
 use Rattle.sw_top.specs.Performs.{Performs}
@@ -33,6 +33,7 @@ pub record NoForm (words : List (List ℕ)) (a b : Told) : Type 0 where
 abbrev pub Serves : List (List ℕ) → End → Told → Told → Type 0
 Serves words Usage a b = NoForm words a b
 Serves words Done a b = Rewriting words Done a b
+Serves words TooLong a b = Rewriting words TooLong a b
 Serves words (Refused r) a b = Rewriting words (Refused r) a b
 Serves words Host a b = Rewriting words Host a b
 Serves words Memory a b = Rewriting words Memory a b

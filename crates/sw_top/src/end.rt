@@ -4,12 +4,13 @@ ghost use Rattle.sw_top.specs.Ends.{status_of, line_of, refusal_line};
 
 use elf_image::Refusal;
 
-/// How the top call ends. `Usage`: the words have no form that is known; `Refused`: the file is turned away; `Host`: a
-/// call of the host failed; `Memory`: memory is wanting.
+/// How the top call ends. `Usage`: the words have no form that is known; `TooLong`: the file has more than 16 MiB;
+/// `Refused`: the file is turned away; `Host`: a call of the host failed; `Memory`: memory is wanting.
 #[derive(Clone, Copy, Debug, PartialEq, Eq)]
 pub enum End {
     Done,
     Usage,
+    TooLong,
     Refused(Refusal),
     Host,
     Memory,
@@ -23,6 +24,7 @@ pub fn status(end: &End) -> u8
         End::Done => 0,
         End::Memory => 120,
         End::Host => 121,
+        End::TooLong => 122,
         End::Refused(_) => 124,
         End::Usage => 125,
     }
@@ -35,6 +37,7 @@ pub fn line_of(end: &End) -> Option<&'static str>
     match end {
         End::Done => None,
         End::Usage => Some("sw: usage"),
+        End::TooLong => Some("sw: file too long"),
         End::Refused(refusal) => Some(refusal_line(*refusal)),
         End::Host => Some("sw: host fault"),
         End::Memory => Some("sw: no memory"),

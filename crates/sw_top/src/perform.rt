@@ -8,7 +8,10 @@ use rewrite_core::{RewriteError, rewrite};
 use std::alloc::Global;
 use sw_host::{Host, HostFault};
 
-/// The most bytes that are asked of a file: one more than 16 MiB.
+/// The most bytes of a file that is rewritten: 16 MiB.
+const GREATEST_SIZE: usize = 16_777_216;
+
+/// The most bytes that are asked of a file: one more, so that a longer file shows.
 const LIMIT: usize = 16_777_217;
 
 /// The text of a map without entries.
@@ -25,6 +28,9 @@ pub fn perform<H: Host>(alloc: Global, from: &str, to: &str, map: &str, host: &m
         Err(HostFault::Failed) => return End::Host,
         Err(HostFault::Memory) => return End::Memory,
     };
+    if bytes.len() > GREATEST_SIZE {
+        return End::TooLong;
+    }
     let rewritten = match rewrite(alloc, bytes.as_slice()) {
         Ok(rewritten) => rewritten,
         Err(RewriteError::Refused(refusal)) => return End::Refused(refusal),

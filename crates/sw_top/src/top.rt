@@ -3,12 +3,15 @@ ghost use Rattle.std.specs.Prelude.{◌≡◌, ◌≤◌, ◌↔◌};
 ghost use Rattle.sw_host.specs.Told.{Tells, Rose};
 ghost use Rattle.sw_top.specs.Words.{texts, HasForm};
 ghost use Rattle.sw_top.specs.Serves.{Serves, Reports};
+ghost use Rattle.sw_top.specs.Leaves.{Leaves};
+ghost use Rattle.sw_top.specs.Decides.{Decides};
 ghost use Rattle.sw_top.specs.Headline.{Rewrote};
 
 use crate::End;
 use crate::end::line_of;
 use crate::perform::perform;
 use crate::words::files_in;
+use elf_image::image_laws;
 use std::alloc::Global;
 use sw_host::Host;
 
@@ -17,6 +20,11 @@ use sw_host::Host;
 /// any place from the load on; what was stored before stays.
 pub fn sw<H: Host>(alloc: Global, words: &[String], host: &mut H) -> End
     ensures serves { Tells (H.told host.old) (H.told host.new) (Serves (texts words.now) result) }
+    // The same in terms of the files, the number of calls and the lines.
+    ensures leaves { Tells (H.told host.old) (H.told host.new) (Leaves (texts words.now) result) }
+    // Which answer comes where memory is left.
+    ensures decides { Tells (H.told host.old) (H.told host.new)
+        (Decides (texts words.now) result (Rose (H.faults host.old) (H.faults host.new))) }
     // After Done the run of the written file agrees with that of the old one.
     ensures headline { result ≡ End.Done → Tells (H.told host.old) (H.told host.new) (Rewrote (texts words.now)) }
     // The words have no form exactly where this is the answer, whatever the host.
@@ -24,6 +32,7 @@ pub fn sw<H: Host>(alloc: Global, words: &[String], host: &mut H) -> End
     // A call of the host failed, as its count of faults shows.
     ensures cause { result ≡ End.Host → Rose (H.faults host.old) (H.faults host.new) }
 {
+    image_laws();
     let Some(files) = files_in(words) else {
         report(&End::Usage, host);
         return End::Usage;

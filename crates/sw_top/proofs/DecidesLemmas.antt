@@ -1,0 +1,147 @@
+-- Which answer comes: what was loaded, and how it was judged, leaves no other.
+use Rattle.std.proofs.Common.{◌≡◌, ◌⊎◌, inl, inr, ℕ, List, length, Option, Some, None, Result, Ok, refl, sym, ap, ◌∙◌, subst, arith}
+use Rattle.elf_image.specs.declared.refusal.Refusal.{Refusal}
+use Rattle.elf_image.specs.declared.refusal.Room.TheVariants.{Source}
+use Rattle.elf_image.specs.declared.image.Image.{Image}
+use Rattle.elf_image.specs.Refusals.{refusal_of}
+use Rattle.elf_image.specs.Image.{image_of, image_if}
+use Rattle.elf_image.specs.Plain.{PlainIsAccepted}
+use Rattle.rewrite_core.specs.Met.{IsRewritable}
+use Rattle.rewrite_core.specs.Rewrites.{IsWritten, IsRefused, by_image, not_yet}
+use Rattle.sw_host.specs.Told.{Told}
+use Rattle.sw_top.specs.declared.end.End.{End}
+use Rattle.sw_top.specs.declared.end.End.TheVariants.{Done, Usage, TooLong, Refused, Host, Memory}
+use Rattle.sw_top.specs.Words.{Names, IsRewrite}
+use Rattle.sw_top.specs.Performs.{input, limit, greatest_size, IsInput, IsOverlong, IsLoaded, Fails, load_fails, out_fails, map_fails}
+use Rattle.sw_top.specs.Serves.{Serves}
+use Rattle.sw_top.specs.Decides.{IsOrMemory, Decides}
+
+no_refusal : (file : List ℕ) (o : Option Refusal) (image : Image) → image_if file o ≡ Ok image → o ≡ None
+no_refusal file None image e = refl
+no_refusal file (Some r) image e = cc
+
+accepted : (file : List ℕ) (image : Image) → image_of file Source ≡ Ok image → refusal_of file Source ≡ None
+unfolding image_of
+accepted file image e = no_refusal file (refusal_of file Source) image e
+
+-- what is rewritten is accepted
+rewritable_is_accepted : PlainIsAccepted → (file : List ℕ) → IsRewritable file → refusal_of file Source ≡ None
+rewritable_is_accepted law file t = accepted file _ (law file Source t.magic t.plain)
+
+-- an accepted file that is rewritable isn't refused
+not_refused : (file : List ℕ) (r : Refusal) → refusal_of file Source ≡ None → IsRewritable file → IsRefused file r → ⊥
+not_refused file r none t (by_image e) = cc
+not_refused file r none t (not_yet is e unfit) = unfit t
+
+written_is_not_refused : (file out : List ℕ) (r : Refusal) → IsWritten file out → IsRefused file r → ⊥
+written_is_not_refused file out r w h = not_refused file r (accepted file _ w.read) w.rewritable h
+
+-- a file has one refusal
+one_refusal : (file : List ℕ) (r q : Refusal) → IsRefused file r → IsRefused file q → q ≡ r
+one_refusal file r q (by_image e) (by_image f) = cc
+one_refusal file r q (by_image e) (not_yet is f unfit) = cc
+one_refusal file r q (not_yet is e unfit) (by_image f) = cc
+one_refusal file r q (not_yet is e unfit) (not_yet was f misfit) = cc
+
+-- words name their files
+same_names : (words : List (List ℕ)) (n m : Names) → IsRewrite words n → IsRewrite words m → n ≡ m
+same_names words n m p q =
+    let there = sym p.words_are in
+    let is = q.words_are in
+    let from : n.from ≡ m.from = cc in
+    let to : n.to ≡ m.to = cc in
+    let map : n.map ≡ m.map = cc in
+    λ i. record { from = from i; to = to i; map = map i }
+
+-- what a load gives is one of three
+module _ (names : Names) (a : Told) where
+  given : (file : List ℕ) → IsInput names a file → input names a ≡ None → ⊥
+  given file p e = let gave = p.gave in cc
+
+  given_front : IsOverlong names a → input names a ≡ None → ⊥
+  given_front p e = let gave = p.gave in cc
+
+  one_input : (file other : List ℕ) → IsInput names a file → IsInput names a other → other ≡ file
+  one_input file other p q = let one = p.gave in let two = q.gave in cc
+
+  not_both : (file : List ℕ) → IsInput names a file → IsOverlong names a → ⊥
+  not_both file p q =
+      let one = p.gave in
+      let two = q.gave in
+      let same : q.front ≡ file = cc in
+      let size = subst (λ f. length f ≡ limit) same q.full in
+      omega (arith, size, p.fits)
+
+-- what a call found, by its answer
+data Outcome (names : Names) (a : Told) (end : End) : Type 0 where
+  is_done : end ≡ Done → (out : List ℕ) → IsLoaded names a out → Outcome names a end
+  is_long : end ≡ TooLong → IsOverlong names a → Outcome names a end
+  is_refused : (file : List ℕ) (r : Refusal) → end ≡ Refused r → IsInput names a file → IsRefused file r → Outcome names a end
+  is_unloaded : end ≡ Host → input names a ≡ None → Outcome names a end
+  is_unstored : end ≡ Host → (out : List ℕ) → IsLoaded names a out → Outcome names a end
+  is_wanting : end ≡ Memory → Outcome names a end
+
+of_fault : (names : Names) (a b : Told) → Fails names a b → Outcome names a Host
+of_fault names a b (load_fails e after) = is_unloaded refl e
+of_fault names a b (out_fails s e) = is_unstored refl s.out s.is_loaded
+of_fault names a b (map_fails s e) = is_unstored refl s.out s.is_loaded
+
+outcome : (words : List (List ℕ)) (end : End) (a b : Told) (names : Names) → IsRewrite words names → Serves words end a b → Outcome names a end
+outcome words Done a b names form s =
+    subst (λ n. Outcome n a Done) (same_names words s.names names s.form form) (is_done refl s.performs.out s.performs.is_loaded)
+outcome words Usage a b names form s = absurd (s.form (names, form))
+outcome words TooLong a b names form s =
+    subst (λ n. Outcome n a TooLong) (same_names words s.names names s.form form) (is_long refl s.performs.overlong)
+outcome words (Refused r) a b names form s =
+    subst (λ n. Outcome n a (Refused r)) (same_names words s.names names s.form form) (is_refused s.performs.file r refl s.performs.is_input s.performs.refused)
+outcome words Host a b names form s =
+    subst (λ n. Outcome n a Host) (same_names words s.names names s.form form) (of_fault s.names a s.before_line s.performs)
+outcome words Memory a b names form s = is_wanting refl
+
+module _ (names : Names) (a : Told) (end : End) where
+  no_file : input names a ≡ None → Outcome names a end → IsOrMemory Host end
+  no_file e (is_done is out l) = absurd (given names a l.file l.is_input e)
+  no_file e (is_long is o) = absurd (given_front names a o e)
+  no_file e (is_refused file r is p h) = absurd (given names a file p e)
+  no_file e (is_unloaded is none) = inl is
+  no_file e (is_unstored is out l) = inl is
+  no_file e (is_wanting is) = inr is
+
+  too_long : IsOverlong names a → Outcome names a end → IsOrMemory TooLong end
+  too_long o (is_done is out l) = absurd (not_both names a l.file l.is_input o)
+  too_long o (is_long is p) = inl is
+  too_long o (is_refused file r is p h) = absurd (not_both names a file p o)
+  too_long o (is_unloaded is none) = absurd (given_front names a o none)
+  too_long o (is_unstored is out l) = absurd (not_both names a l.file l.is_input o)
+  too_long o (is_wanting is) = inr is
+
+  module _ (file : List ℕ) (p : IsInput names a file) where
+    written_here : (out : List ℕ) → (l : IsLoaded names a out) → IsWritten file out
+    written_here out l = subst (λ f. IsWritten f out) (one_input names a file l.file p l.is_input) l.written
+
+    refused_here : (other : List ℕ) (q : Refusal) → IsInput names a other → IsRefused other q → IsRefused file q
+    refused_here other q i h = subst (λ f. IsRefused f q) (one_input names a file other p i) h
+
+    refused : (r : Refusal) → IsRefused file r → Outcome names a end → IsOrMemory (Refused r) end
+    refused r h (is_done is out l) = absurd (written_is_not_refused file out r (written_here out l) h)
+    refused r h (is_long is o) = absurd (not_both names a file p o)
+    refused r h (is_refused other q is i g) = inl (is ∙ ap Refused (one_refusal file r q h (refused_here other q i g)))
+    refused r h (is_unloaded is none) = absurd (given names a file p none)
+    refused r h (is_unstored is out l) = absurd (written_is_not_refused file out r (written_here out l) h)
+    refused r h (is_wanting is) = inr is
+
+    done : PlainIsAccepted → IsRewritable file → (end ≡ Host → ⊥) → Outcome names a end → IsOrMemory Done end
+    done law t never (is_done is out l) = inl is
+    done law t never (is_long is o) = absurd (not_both names a file p o)
+    done law t never (is_refused other q is i g) = absurd (not_refused file q (rewritable_is_accepted law file t) t (refused_here other q i g))
+    done law t never (is_unloaded is none) = absurd (never is)
+    done law t never (is_unstored is out l) = absurd (never is)
+    done law t never (is_wanting is) = inr is
+
+pub decides : PlainIsAccepted → (words : List (List ℕ)) (end : End) (rose : Type 0) (a b : Told) → (end ≡ Host → rose) → Serves words end a b → Decides words end rose a b
+decides law words end rose a b cause s = record {
+  no_file = λ names form e. no_file names a end e (outcome words end a b names form s);
+  too_long = λ names form o. too_long names a end o (outcome words end a b names form s);
+  refused = λ names form file p r h. refused names a end file p r h (outcome words end a b names form s);
+  done = λ names form file p t still. done names a end file p law t (λ e. still (cause e)) (outcome words end a b names form s);
+}
