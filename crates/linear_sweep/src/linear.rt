@@ -24,7 +24,7 @@ impl Counts {
     }
 }
 
-// One instruction more, or one byte more that begins none.
+/// One instruction more, or one byte more that begins none.
 fn more(seen: Counts, bytes: &[u8]) -> Counts
     requires some { 0 < length bytes.now }
     requires room { seen.spelled + (seen.outside + seen.short) + length bytes.now < 2 ^ 64 }
