@@ -20,7 +20,7 @@ pub(crate) struct Line {
     front: Front,
 }
 
-// The value of a hexadecimal digit.
+/// The value of a hexadecimal digit.
 fn digit_of(character: u8) -> Option<u8>
     ensures value { result ≡ spec.digit_of character }
     ensures small { IfSome result (λ digit. digit < 16) }

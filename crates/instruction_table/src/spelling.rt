@@ -25,6 +25,7 @@ impl Model for Spelling {
 }
 
 impl Spelling {
+    /// The best spelling of the instruction.
     pub(crate) fn best(instr: &Instr) -> Spelling
         requires spelled { HasSpelling instr.now }
         ensures best { IsBest instr.now result }
@@ -34,6 +35,7 @@ impl Spelling {
         Spelling { bytes, len }
     }
 
+    /// The best one without the short forms of jumps.
     pub(crate) fn best_wide(instr: &Instr) -> Spelling
         requires spelled { HasSpelling instr.now }
         ensures best { IsBestWide instr.now result }

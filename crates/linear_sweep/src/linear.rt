@@ -1,6 +1,6 @@
 // A linear sweep: instruction after instruction from the first byte on.
 ghost use Rattle.std.specs.Prelude.{◌≡◌, ◌+◌, ◌≤◌, ◌<◌, ◌^◌, length};
-ghost use Rattle.linear_sweep.specs.Sweep.{Grows};
+ghost use Rattle.linear_sweep.specs.Sweep.{Grows, Sweeps, no_counts};
 
 use x86_decode::{Decoded, decode};
 use x86_grammar::spelling_is_short;
@@ -24,12 +24,12 @@ impl Counts {
     }
 }
 
-// One instruction more, or one byte more that begins none.
+/// One instruction more, or one byte more that begins none.
 fn more(seen: Counts, bytes: &[u8]) -> Counts
     requires some { 0 < length bytes.now }
     requires room { seen.spelled + (seen.outside + seen.short) + length bytes.now < 2 ^ 64 }
     requires few { seen.instructions ≤ seen.spelled }
-    ensures { Grows seen result (length bytes.now) }
+    ensures { Grows bytes.now seen result }
 {
     spelling_is_short();
     match decode(bytes) {
@@ -52,6 +52,7 @@ fn more(seen: Counts, bytes: &[u8]) -> Counts
 /// Sweeps the bytes. Where no front spells an instruction it goes on with the next byte, so that
 /// each byte is counted once.
 pub fn sweep(bytes: &[u8]) -> Counts
+    ensures swept { Sweeps bytes.now no_counts result }
     ensures all { result.spelled + (result.outside + result.short) ≡ length bytes.now }
     ensures few { result.instructions ≤ result.spelled }
 {

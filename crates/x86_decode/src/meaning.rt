@@ -1,24 +1,9 @@
 ghost use Rattle.std.specs.Prelude.{◌≡◌, ◌<◌, ◌^◌, Some};
 ghost use Rattle.x86_grammar.specs.Attributes.{imm_size};
 ghost use Rattle.x86_grammar.specs.Meaning as spec;
-ghost use Rattle.x86_grammar.specs.Parts as parts;
 
-use x86_grammar::{Row, width_of};
+use x86_grammar::{Row, signed, width_of};
 use x86_types::{Address, AluOp, Cond, Count, Instr, Reg, Rm, ShiftOp, Src, Width, alu_at, reg_at};
-
-/// A byte with its sign, at the width.
-pub(crate) fn signed(width: Width, byte: u8) -> u32
-    ensures { result ≡ parts.signed width byte }
-{
-    if byte < 128 {
-        return byte as u32;
-    }
-    match width {
-        Width::One => byte as u32,
-        Width::Two => byte as u32 + 0xFF00,
-        Width::Four => byte as u32 + 0xFFFF_FF00,
-    }
-}
 
 fn src_of(rm: Rm) -> Src
     ensures { result ≡ spec.src_of rm }

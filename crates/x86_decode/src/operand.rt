@@ -1,7 +1,7 @@
 ghost use Rattle.std.specs.Prelude.{◌≡◌, ◌<◌, ◌≤◌, ◌^◌};
 ghost use Rattle.x86_grammar.specs.Operand as spec;
 
-use crate::meaning::signed;
+use x86_grammar::signed;
 use x86_types::{Address, Reg, Rm, Width, reg_at};
 
 /// Whether SIB stands behind that ModRM.

@@ -30,6 +30,7 @@ fn number(size: u8, bytes: &[u8]) -> u32
     }
 }
 
+/// The displacement of `size` bytes and the number at the end, and what the parts mean together.
 #[tactic(auto, unfolding(x86_grammar::specs::Reading::numbers))]
 fn numbers(row: Row, counts: Counts, m: u8, sib: u8, size: u8, bytes: &[u8]) -> Seen
     requires size { size ≡ disp_size m sib }
@@ -37,13 +38,13 @@ fn numbers(row: Row, counts: Counts, m: u8, sib: u8, size: u8, bytes: &[u8]) -> 
     ensures { result ≡ reading.numbers row counts m sib size bytes.now }
 {
     let half = half_in(row, counts);
-    let wide = imm_size(row, half);
-    let all = size as usize + wide as usize;
+    let imm_bytes = imm_size(row, half);
+    let all = size as usize + imm_bytes as usize;
     if bytes.len() < all {
         return Seen::Needs(all - bytes.len());
     }
     let disp = number(size, bytes);
-    let imm = number(wide, &bytes[size as usize..]);
+    let imm = number(imm_bytes, &bytes[size as usize..]);
     match build(
         row,
         half,
@@ -57,6 +58,7 @@ fn numbers(row: Row, counts: Counts, m: u8, sib: u8, size: u8, bytes: &[u8]) -> 
     }
 }
 
+/// The fewest bytes of the displacement, whichever SIB stands behind that ModRM.
 fn least_disp(m: u8) -> u8
     ensures size { result ≡ reading.least_disp m }
     ensures few { result ≤ 4 }
@@ -70,8 +72,8 @@ fn sib_at(row: Row, counts: Counts, m: u8, bytes: &[u8]) -> Seen
 {
     match bytes {
         [] => {
-            let wide = imm_size(row, half_in(row, counts));
-            Seen::Needs(1 + (least_disp(m) as usize + wide as usize))
+            let imm_bytes = imm_size(row, half_in(row, counts));
+            Seen::Needs(1 + (least_disp(m) as usize + imm_bytes as usize))
         }
         [sib, rest @ ..] => numbers(row, counts, m, *sib, disp_size(m, *sib), rest),
     }
@@ -189,7 +191,7 @@ fn least_opcode(counts: Counts) -> Option<usize>
     }
 }
 
-/// The same behind 0F: of BSWAP, the long NOP or ENDBR32.
+/// The fewest bytes behind 0F: of BSWAP, the long NOP or ENDBR32.
 fn least_escaped(counts: Counts) -> Option<usize>
     ensures { result ≡ reading.least_escaped counts }
 {

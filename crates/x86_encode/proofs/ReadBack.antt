@@ -3,6 +3,7 @@ use Rattle.std.proofs.Common.{◌≡◌, ℕ, ◌+◌, ◌*◌, ◌/◌, ◌%◌
 use Rattle.std.proofs.lemmas.Bool.{cond_both, false≢true, eqb-true, ltb-true, lt-ltb, le-ltb}
 use Rattle.std.specs.Prelude.{IfSome}
 use Rattle.x86_types.specs.declared.operand.Reg.{Reg}
+use Rattle.x86_types.specs.declared.operand.Reg.TheVariants as reg
 use Rattle.x86_types.specs.declared.operand.Address.{Address}
 use Rattle.x86_types.specs.declared.operand.Rm.{Rm}
 use Rattle.x86_types.specs.declared.operand.Rm.TheVariants as rm
@@ -15,8 +16,10 @@ use Rattle.x86_encode.specs.BestOperand.{class_of, best_mod, best_size, best_rm,
 use Rattle.x86_encode.specs.BestForm.{best_operand}
 use Rattle.x86_encode.proofs.Ordering.{and_left, and_right}
 use Rattle.x86_encode.proofs.OperandTest.{class_small, sib_same, base_same, index_same, size_same}
-use Rattle.x86_encode.proofs.Fields.{reg_low}
 use Rattle.x86_encode.proofs.RoundTest.{Says, best_says}
+
+reg_low : (r : Reg) → number_of_reg r < 8
+reg_low r = elim r as (λ r. number_of_reg r < 8) [ reg.Eax ↦ lit< tt | _ ↦ lit< tt ]
 
 low_low : (b : Option Reg) → low b < 8
 low_low None = lit< tt

@@ -1,3 +1,4 @@
+// The forms of the instructions that compute, but for INC and DEC.
 ghost use Rattle.std.specs.Prelude.{◌≡◌};
 ghost use Rattle.x86_types.specs.declared.operand.Src.TheVariants as src;
 ghost use Rattle.x86_types.specs.declared.operation.Count.TheVariants as count;
@@ -7,22 +8,24 @@ ghost use Rattle.x86_encode.specs.Choice.{picks};
 ghost use Rattle.x86_encode.specs.Text.{text};
 
 use crate::offer::{offer_plain, offer_rm};
-use crate::parts::{is_full, is_signed_byte, number_of, number_of_op, number_of_shift};
+use crate::parts::{is_full, is_signed_byte};
 use crate::text::Text;
 use x86_grammar::Row;
-use x86_types::{Address, AluOp, Count, Reg, Rm, ShiftOp, Src, Width};
+use x86_types::{
+    Address, AluOp, Count, Reg, Rm, ShiftOp, Src, Width, alu_number, reg_number, shift_number,
+};
 
 fn alu_from_reg(best: &mut Text, op: AluOp, width: Width, to: Rm, from: Reg)
     ensures { text best.new ≡ picks (text best.old) (forms.alu_forms op width to (src.Reg from)) }
 {
     let full = is_full(width);
-    offer_rm(best, Row::AluToRm(op, full), width, number_of(from), to, 0);
+    offer_rm(best, Row::AluToRm(op, full), width, reg_number(from), to, 0);
     if let Rm::Reg(reg) = to {
         offer_rm(
             best,
             Row::AluToReg(op, full),
             width,
-            number_of(reg),
+            reg_number(reg),
             Rm::Reg(from),
             0,
         );
@@ -34,7 +37,7 @@ fn alu_from_mem(best: &mut Text, op: AluOp, width: Width, to: Rm, from: Address)
 {
     if let Rm::Reg(reg) = to {
         let row = Row::AluToReg(op, is_full(width));
-        offer_rm(best, row, width, number_of(reg), Rm::Mem(from), 0);
+        offer_rm(best, row, width, reg_number(reg), Rm::Mem(from), 0);
     }
 }
 
@@ -54,7 +57,7 @@ fn alu_byte(best: &mut Text, op: AluOp, width: Width, to: Rm, value: u32)
         Width::One => {}
         Width::Two | Width::Four => {
             if is_signed_byte(width, value) {
-                offer_rm(best, Row::AluByte, width, number_of_op(op), to, value % 256);
+                offer_rm(best, Row::AluByte, width, alu_number(op), to, value % 256);
             }
         }
     }
@@ -65,7 +68,7 @@ fn alu_from_imm(best: &mut Text, op: AluOp, width: Width, to: Rm, value: u32)
     ensures { text best.new ≡ picks (text best.old) (forms.alu_forms op width to (src.Imm value)) }
 {
     let full = is_full(width);
-    offer_rm(best, Row::AluImm(full), width, number_of_op(op), to, value);
+    offer_rm(best, Row::AluImm(full), width, alu_number(op), to, value);
     offer_acc(best, to, Row::AluAcc(op, full), width, value);
     alu_byte(best, op, width, to, value);
 }
@@ -87,7 +90,7 @@ pub(crate) fn test(best: &mut Text, width: Width, left: Rm, right: Src)
 {
     let full = is_full(width);
     match right {
-        Src::Reg(reg) => offer_rm(best, Row::TestRm(full), width, number_of(reg), left, 0),
+        Src::Reg(reg) => offer_rm(best, Row::TestRm(full), width, reg_number(reg), left, 0),
         Src::Mem(_) => {}
         Src::Imm(value) => {
             offer_rm(best, Row::TestImm(full), width, 0, left, value);
@@ -102,7 +105,7 @@ pub(crate) fn to_reg(best: &mut Text, row: Row, width: Width, to: Reg, from: Rm)
 {
     match width {
         Width::One => {}
-        Width::Two | Width::Four => offer_rm(best, row, width, number_of(to), from, 0),
+        Width::Two | Width::Four => offer_rm(best, row, width, reg_number(to), from, 0),
     }
 }
 
@@ -113,9 +116,9 @@ pub(crate) fn imul_by(best: &mut Text, width: Width, to: Reg, from: Rm, by: u32)
     match width {
         Width::One => {}
         Width::Two | Width::Four => {
-            offer_rm(best, Row::ImulWord, width, number_of(to), from, by);
+            offer_rm(best, Row::ImulWord, width, reg_number(to), from, by);
             if is_signed_byte(width, by) {
-                offer_rm(best, Row::ImulByte, width, number_of(to), from, by % 256);
+                offer_rm(best, Row::ImulByte, width, reg_number(to), from, by % 256);
             }
         }
     }
@@ -126,7 +129,7 @@ pub(crate) fn shift(best: &mut Text, op: ShiftOp, width: Width, to: Rm, count: C
     ensures { text best.new ≡ picks (text best.old) (forms.shift_forms op width to count) }
 {
     let full = is_full(width);
-    let middle = number_of_shift(op);
+    let middle = shift_number(op);
     match count {
         Count::Imm(value) => {
             offer_rm(
@@ -149,7 +152,7 @@ pub(crate) fn shift(best: &mut Text, op: ShiftOp, width: Width, to: Rm, count: C
 pub(crate) fn double(best: &mut Text, imm: Row, cl: Row, to: Rm, from: Reg, count: Count)
     ensures { text best.new ≡ picks (text best.old) (forms.double_forms imm cl to from count) }
 {
-    let middle = number_of(from);
+    let middle = reg_number(from);
     match count {
         Count::Imm(value) => offer_rm(best, imm, Width::Four, middle, to, value as u32),
         Count::Cl => offer_rm(best, cl, Width::Four, middle, to, 0),

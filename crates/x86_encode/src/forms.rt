@@ -4,15 +4,16 @@ ghost use Rattle.x86_encode.specs.Text.{text};
 
 use crate::arithmetic::{alu, double, imul_by, shift, test, to_reg};
 use crate::jumps::{jcc, jmp, nop, ret};
-use crate::moves::{lea, mov, pop, push, widen, xchg};
+use crate::moves::{alone, lea, mov, pop, push, widen, xchg};
 use crate::offer::{offer_plain, offer_repeated, offer_rm};
 use crate::parts::is_full;
+use crate::steps::{dec, inc};
 use crate::text::Text;
-use crate::units::{alone, dec, inc};
 use x86_grammar::Row;
 use x86_types::{Instr, Width};
 
-/// Each form of the instruction, without the short jumps where `wide`.
+/// Offers each form of the instruction, without the short jumps where `wide`: `best` becomes the first
+/// in order of what it was and of each form's best text.
 pub(crate) fn offer_forms(best: &mut Text, wide: bool, instr: Instr)
     ensures { text best.new ≡ picks (text best.old) (forms_at wide instr) }
 {

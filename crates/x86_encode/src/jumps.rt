@@ -1,3 +1,4 @@
+// The forms of jumps, RET and NOP.
 ghost use Rattle.std.specs.Prelude.{◌≡◌};
 ghost use Rattle.x86_types.specs.declared.instr.Instr.TheVariants as instr;
 ghost use Rattle.x86_grammar.specs.Forms as forms;

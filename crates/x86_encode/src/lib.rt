@@ -13,10 +13,10 @@ mod order;
 mod parts;
 mod put;
 mod read_back;
+mod steps;
 #[cfg(test)]
 mod tests;
 mod text;
-mod units;
 
 pub use encoder::{encode, encode_wide};
 pub use laws::best_laws;

@@ -1,4 +1,5 @@
-ghost use Rattle.std.specs.Prelude.{◌≡◌};
+// The forms of the instructions that move or widen.
+ghost use Rattle.std.specs.Prelude.{◌≡◌, ◌∷◌, []};
 ghost use Rattle.x86_types.specs.declared.operand.Rm.TheVariants as rm;
 ghost use Rattle.x86_types.specs.declared.operand.Src.TheVariants as src;
 ghost use Rattle.x86_types.specs.declared.instr.Instr.TheVariants as instr;
@@ -9,10 +10,10 @@ ghost use Rattle.x86_encode.specs.Choice.{picks};
 ghost use Rattle.x86_encode.specs.Text.{text};
 
 use crate::offer::{offer_plain, offer_rm};
-use crate::parts::{is_full, is_signed_byte, number_of};
+use crate::parts::{is_full, is_signed_byte};
 use crate::text::Text;
 use x86_grammar::Row;
-use x86_types::{Address, Reg, Rm, Src, Width};
+use x86_types::{Address, Reg, Rm, Src, Width, reg_number};
 
 /// A row whose number is the address, where the address is a number alone.
 fn offer_number(best: &mut Text, at: Address, row: Row, width: Width)
@@ -55,14 +56,14 @@ fn mov_from_reg(best: &mut Text, width: Width, to: Rm, from: Reg)
     ensures { text best.new ≡ picks (text best.old) (forms.mov_forms width to (src.Reg from)) }
 {
     let full = is_full(width);
-    offer_rm(best, Row::MovToRm(full), width, number_of(from), to, 0);
+    offer_rm(best, Row::MovToRm(full), width, reg_number(from), to, 0);
     match to {
         Rm::Reg(reg) => {
             offer_rm(
                 best,
                 Row::MovToReg(full),
                 width,
-                number_of(reg),
+                reg_number(reg),
                 Rm::Reg(from),
                 0,
             );
@@ -77,7 +78,7 @@ fn mov_from_mem(best: &mut Text, width: Width, to: Rm, from: Address)
 {
     if let Rm::Reg(reg) = to {
         let row = Row::MovToReg(is_full(width));
-        offer_rm(best, row, width, number_of(reg), Rm::Mem(from), 0);
+        offer_rm(best, row, width, reg_number(reg), Rm::Mem(from), 0);
         load(best, width, reg, from);
     }
 }
@@ -110,7 +111,7 @@ pub(crate) fn lea(best: &mut Text, width: Width, to: Reg, at: Address)
     match width {
         Width::One => {}
         Width::Two | Width::Four => {
-            offer_rm(best, Row::Lea, width, number_of(to), Rm::Mem(at), 0);
+            offer_rm(best, Row::Lea, width, reg_number(to), Rm::Mem(at), 0);
         }
     }
 }
@@ -171,7 +172,7 @@ pub(crate) fn xchg(best: &mut Text, width: Width, left: Rm, right: Reg)
         best,
         Row::Xchg(is_full(width)),
         width,
-        number_of(right),
+        reg_number(right),
         left,
         0,
     );
@@ -194,9 +195,20 @@ pub(crate) fn widen(
     ensures { text best.new ≡ picks (text best.old) (forms.widen_forms byte half wide width to from) }
 {
     match (wide, width) {
-        (Width::Two, Width::One) => offer_rm(best, byte, Width::Two, number_of(to), from, 0),
-        (Width::Four, Width::One) => offer_rm(best, byte, Width::Four, number_of(to), from, 0),
-        (Width::Four, Width::Two) => offer_rm(best, half, Width::Four, number_of(to), from, 0),
+        (Width::Two, Width::One) => offer_rm(best, byte, Width::Two, reg_number(to), from, 0),
+        (Width::Four, Width::One) => offer_rm(best, byte, Width::Four, reg_number(to), from, 0),
+        (Width::Four, Width::Two) => offer_rm(best, half, Width::Four, reg_number(to), from, 0),
         _ => {}
+    }
+}
+
+/// CBW, CWDE, CWD and CDQ, by their row: nothing stands behind its opcode.
+pub(crate) fn alone(best: &mut Text, row: Row, width: Width)
+    ensures { text best.new ≡ picks (text best.old)
+        (parts.not_one width (parts.plain row width 0 ∷ [])) }
+{
+    match width {
+        Width::One => {}
+        Width::Two | Width::Four => offer_plain(best, row, width, 0),
     }
 }

@@ -64,7 +64,7 @@ fn text_of(form: Form) -> Text
     out
 }
 
-/// The form's best text, where it comes before what is there.
+/// Offers a form: its best text takes the place of `best` where it comes before it.
 pub(crate) fn offer(best: &mut Text, form: Form)
     requires middle { form.middle < 8 }
     ensures text { text best.new ≡ pick (text best.old) form }
@@ -75,7 +75,7 @@ pub(crate) fn offer(best: &mut Text, form: Form)
     }
 }
 
-/// A row with ModRM.
+/// Offers a row with ModRM.
 pub(crate) fn offer_rm(best: &mut Text, row: Row, width: Width, middle: u8, rm: Rm, imm: u32)
     requires middle { middle < 8 }
     ensures text { text best.new ≡ pick (text best.old) (parts.with_rm row width middle rm imm) }
@@ -93,7 +93,7 @@ pub(crate) fn offer_rm(best: &mut Text, row: Row, width: Width, middle: u8, rm: 
     );
 }
 
-/// A row that F3 may stand before.
+/// Offers a row without ModRM, with F3 before it where `rep`.
 pub(crate) fn offer_repeated(best: &mut Text, row: Row, width: Width, rep: bool, imm: u32)
     ensures text { text best.new ≡ pick (text best.old) (parts.repeated row width rep imm) }
 {
@@ -110,7 +110,7 @@ pub(crate) fn offer_repeated(best: &mut Text, row: Row, width: Width, rep: bool,
     );
 }
 
-/// A row with a number alone.
+/// Offers a row without ModRM: its opcode, and its number where it has one.
 pub(crate) fn offer_plain(best: &mut Text, row: Row, width: Width, imm: u32)
     ensures text { text best.new ≡ pick (text best.old) (parts.plain row width imm) }
 {

@@ -3,10 +3,10 @@ ghost use Rattle.x86_encode.specs.BestForm as form;
 ghost use Rattle.x86_encode.specs.BestOperand as spec;
 ghost use Rattle.x86_encode.specs.Text.{text};
 
-use crate::parts::{number_of, signed};
+use crate::parts::is_signed_byte;
 use crate::put::{put, put_number};
 use crate::text::Text;
-use x86_types::{Address, Reg, Rm, Width};
+use x86_types::{Address, Reg, Rm, Width, reg_number};
 
 fn class_of(disp: u32) -> u8
     ensures class { result ≡ spec.class_of disp }
@@ -14,7 +14,7 @@ fn class_of(disp: u32) -> u8
 {
     if disp == 0 {
         0
-    } else if signed(Width::Four, disp % 256) == disp {
+    } else if is_signed_byte(Width::Four, disp) {
         1
     } else {
         2
@@ -29,7 +29,7 @@ fn best_mod(base: Option<Reg>, class: u8) -> u8
     match base {
         None => 0,
         Some(reg) => {
-            if class == 0 && number_of(reg) == 5 {
+            if class == 0 && reg_number(reg) == 5 {
                 1
             } else {
                 class
@@ -61,7 +61,7 @@ fn low(base: Option<Reg>) -> u8
 {
     match base {
         None => 5,
-        Some(reg) => number_of(reg),
+        Some(reg) => reg_number(reg),
     }
 }
 
@@ -87,7 +87,7 @@ fn index_field(index: Option<Reg>) -> u8
 {
     match index {
         None => 4,
-        Some(reg) => number_of(reg),
+        Some(reg) => reg_number(reg),
     }
 }
 
@@ -160,7 +160,8 @@ fn put_address(out: &mut Text, middle: u8, at: &Address)
     put_disp(out, at);
 }
 
-/// The best operand with that middle field.
+/// Puts the best spelling of the operand behind the text: ModRM with that middle field, SIB where it
+/// must stand, and the shortest displacement. No `rm`: any will do.
 pub(crate) fn put_operand(out: &mut Text, middle: u8, rm: Option<Rm>)
     requires middle { middle < 8 }
     requires room { out.old.len + 6 ≤ 16 }
@@ -169,7 +170,7 @@ pub(crate) fn put_operand(out: &mut Text, middle: u8, rm: Option<Rm>)
 {
     match rm {
         None => put(out, 8 * middle),
-        Some(Rm::Reg(reg)) => put(out, 192 + (8 * middle + number_of(reg))),
+        Some(Rm::Reg(reg)) => put(out, 192 + (8 * middle + reg_number(reg))),
         Some(Rm::Mem(at)) => put_address(out, middle, &at),
     }
 }

@@ -4,7 +4,7 @@ ghost use Rattle.x86_encode.specs.Text.{text};
 
 use crate::text::Text;
 
-/// Whether it comes before the other in the order of bytes.
+/// Whether `a` comes before `b` in the order of bytes.
 fn is_before_by_bytes(a: &[u8], b: &[u8]) -> bool
     ensures { result ≡ choice.before_by_bytes a.now b.now }
 {
@@ -17,7 +17,7 @@ fn is_before_by_bytes(a: &[u8], b: &[u8]) -> bool
     }
 }
 
-/// Whether it is shorter than the other, or as long and before it in the order of bytes.
+/// Whether `a` is shorter than `b`, or as long and before it in the order of bytes.
 pub(crate) fn is_before(a: &Text, b: &Text) -> bool
     ensures { result ≡ choice.before (text a.now) (text b.now) }
 {

@@ -15,7 +15,7 @@ pub(crate) fn empty() -> Text
     }
 }
 
-/// One byte more.
+/// Puts one byte behind the text.
 pub(crate) fn put(out: &mut Text, byte: u8)
     requires room { out.old.len < 16 }
     ensures text { text out.new ≡ text out.old ++ byte ∷ [] }
@@ -25,7 +25,7 @@ pub(crate) fn put(out: &mut Text, byte: u8)
     out.len += 1;
 }
 
-/// A number in so many bytes, the lowest first.
+/// Puts the number's `size` lowest bytes behind the text, the lowest first.
 pub(crate) fn put_number(out: &mut Text, size: u8, number: u32)
     requires room { out.old.len + size ≤ 16 }
     ensures text { text out.new ≡ text out.old ++ le size number }

@@ -1,6 +1,6 @@
 ghost use Rattle.std.specs.Prelude.{◌≤◌};
 
-/// At most sixteen bytes, which stand first.
+/// At most sixteen bytes: the first `len` of `bytes`.
 #[derive(Clone, Copy)]
 pub(crate) struct Text {
     pub bytes: [u8; 16],

@@ -6,6 +6,7 @@ mod fields;
 mod form_laws;
 mod group;
 mod opcode_map;
+mod parts;
 mod reading;
 mod row;
 mod spelling;
@@ -14,6 +15,7 @@ pub use attributes::{can_half, half_in, has_operand, imm_size, key_of, prefixes_
 pub use form_laws::forms_are_right;
 pub use group::member;
 pub use opcode_map::{ENTRIES, entry_at, opcode_map_is_right};
+pub use parts::signed;
 pub use reading::{Seen, reading_is_right};
 pub use row::{Counts, Entry, Form, Group, Row};
 pub use spelling::{

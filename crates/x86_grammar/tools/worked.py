@@ -156,6 +156,10 @@ TOO_LONG = [
 
 READER = "entry_of numbers sib_at after_m m_at plain_at after_opcode after_escape at_opcode read_from"
 
+# How the lemmas of the two lists are proved: the reader sees nothing there, or the bytes are too many.
+SEEN = f"unfolding {READER}\n{{name}} = none_spelled ({{bytes}}) refl\n"
+COUNTED = "{name} i s = let h = s.short in absurd (omega arith)\n"
+
 
 def numbers(text):
     return [int(word, 16) for word in text.split()]
@@ -195,21 +199,13 @@ def spelled(at, row):
             f"({among}) {says} refl\n")
 
 
-def nothing(at, row):
-    text, why = row
-    bytes_ = listed(numbers(text))
-    return (f"-- {text}: {why}\n"
-            f"nothing_{at} : (i : Instr) → Spells ({bytes_}) i → ⊥\n"
-            f"unfolding {READER}\n"
-            f"nothing_{at} = none_spelled ({bytes_}) refl\n")
-
-
-def too_long(at, row):
-    text, why = row
-    bytes_ = listed(numbers(text))
-    return (f"-- {text}: {why}\n"
-            f"too_long_{at} : (i : Instr) → Spells ({bytes_}) i → ⊥\n"
-            f"too_long_{at} i s = let h = s.short in absurd (omega arith)\n")
+def unspelled(name, proof, rows):
+    """A lemma for each row: no instruction is spelled by its bytes."""
+    for at, (text, why) in enumerate(rows):
+        bytes_ = listed(numbers(text))
+        yield (f"-- {text}: {why}\n"
+               f"{name}_{at} : (i : Instr) → Spells ({bytes_}) i → ⊥\n"
+               + proof.format(name=f"{name}_{at}", bytes=bytes_))
 
 
 def table(name, type_, rows):
@@ -235,8 +231,8 @@ def main():
                    "\n".join(spelled(at, row) for at, row in enumerate(SPELLED)))
     text = rewrite(text, "-- ---- what spells nothing, by tools/worked.py\n",
                    "-- ---- the end of the rows\n",
-                   "\n".join([nothing(at, row) for at, row in enumerate(NOTHING)]
-                             + [too_long(at, row) for at, row in enumerate(TOO_LONG)]))
+                   "\n".join([*unspelled("nothing", SEEN, NOTHING),
+                              *unspelled("too_long", COUNTED, TOO_LONG)]))
     begin = "-- ---- the end of the rows\n"
     text = text[:text.index(begin) + len(begin)] + f"""
 pub all_spelled : AllSpelled

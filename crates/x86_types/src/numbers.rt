@@ -7,6 +7,7 @@ use crate::operation::{AluOp, Cond, ShiftOp};
 /// The register's number.
 pub fn reg_number(reg: Reg) -> u8
     ensures number { result ≡ number_of_reg reg }
+    ensures small { result < 8 }
 {
     match reg {
         Reg::Eax => 0,
@@ -39,6 +40,7 @@ pub fn reg_at(n: u8) -> Reg
 /// The operation's number.
 pub fn alu_number(op: AluOp) -> u8
     ensures number { result ≡ number_of_alu op }
+    ensures small { result < 8 }
 {
     match op {
         AluOp::Add => 0,
@@ -71,6 +73,7 @@ pub fn alu_at(n: u8) -> AluOp
 /// The shift's number.
 pub fn shift_number(op: ShiftOp) -> u8
     ensures number { result ≡ number_of_shift op }
+    ensures small { result < 8 }
 {
     match op {
         ShiftOp::Rol => 0,
@@ -98,6 +101,7 @@ pub fn shift_at(n: u8) -> Option<ShiftOp>
 /// The condition's number.
 pub fn cond_number(cond: Cond) -> u8
     ensures number { result ≡ number_of_cond cond }
+    ensures small { result < 16 }
 {
     match cond {
         Cond::O => 0,

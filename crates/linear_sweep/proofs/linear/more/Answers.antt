@@ -1,4 +1,4 @@
-use Rattle.std.proofs.Common.{ℕ, ◌<◌, ◌≤◌, List, take, length, arith, length-take}
+use Rattle.std.proofs.Common.{ℕ, ◌<◌, ◌≤◌, List, take, length, refl, arith, length-take}
 use Rattle.x86_types.specs.declared.instr.Instr.{Instr}
 use Rattle.x86_grammar.specs.Fronts.{FrontSpells}
 use Rattle.x86_grammar.specs.Spells.{Spells}
@@ -20,4 +20,12 @@ overflow_add-result-in-One c =
 pub returns-in-One : goal.returns-in-One
 returns-in-One c =
     let p = passes c.args.bytes.now c.in-One.field-0 c.in-One.length c.spelling_is_short.ensures.some ((c.decode.ensures.one c.in-One.field-0 c.in-One.length).0 c.in-One.is) in
-    record { some = omega (arith, p.some); within = omega (arith, p.there); few = omega (arith, p.some, c.requires.few) }
+    record {
+      front = c.decode.result;
+      begins = record { one = c.decode.ensures.one; short = c.decode.ensures.short; outside = c.decode.ensures.outside };
+      is = rw c.in-One.is refl;
+      sum = rw c.in-One.is (omega arith);
+      some = omega (arith, p.some);
+      within = omega (arith, p.there);
+      few = omega (arith, p.some, c.requires.few);
+    }

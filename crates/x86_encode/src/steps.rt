@@ -1,8 +1,8 @@
-ghost use Rattle.std.specs.Prelude.{◌≡◌, ◌∷◌, []};
+// The forms of INC and DEC.
+ghost use Rattle.std.specs.Prelude.{◌≡◌};
 ghost use Rattle.x86_types.specs.declared.instr.Instr.TheVariants as instr;
 ghost use Rattle.x86_grammar.specs.declared.row.Row.TheVariants as row;
 ghost use Rattle.x86_grammar.specs.Forms as forms;
-ghost use Rattle.x86_grammar.specs.Parts as parts;
 ghost use Rattle.x86_encode.specs.Choice.{picks};
 ghost use Rattle.x86_encode.specs.Text.{text};
 
@@ -52,15 +52,4 @@ pub(crate) fn dec(best: &mut Text, width: Width, to: Rm)
 {
     offer_rm(best, Row::Dec(is_full(width)), width, 1, to, 0);
     dec_short(best, width, to);
-}
-
-/// A row of widths Two and Four with nothing behind its opcode.
-pub(crate) fn alone(best: &mut Text, row: Row, width: Width)
-    ensures { text best.new ≡ picks (text best.old)
-        (parts.not_one width (parts.plain row width 0 ∷ [])) }
-{
-    match width {
-        Width::One => {}
-        Width::Two | Width::Four => offer_plain(best, row, width, 0),
-    }
 }
