@@ -1,5 +1,7 @@
 -- Which answer comes: what was loaded, and how it was judged, leaves no other.
-use Rattle.std.proofs.Common.{◌≡◌, ◌⊎◌, inl, inr, ℕ, List, length, Option, Some, None, Result, Ok, refl, sym, ap, ◌∙◌, subst, arith}
+use Rattle.std.proofs.Common.{◌≡◌, ◌<◌, ◌≤◌, inl, inr, ℕ, min, Bool, true, false, cond, option_map, length-take, List, take, length, Option, Some, None, Ok, refl, sym, ap, ◌∙◌, subst, arith}
+use Rattle.std.proofs.lemmas.List.{take_all}
+use Rattle.std.specs.FinMap.{get}
 use Rattle.elf_image.specs.declared.refusal.Refusal.{Refusal}
 use Rattle.elf_image.specs.declared.refusal.Room.TheVariants.{Source}
 use Rattle.elf_image.specs.declared.image.Image.{Image}
@@ -9,12 +11,13 @@ use Rattle.elf_image.specs.Plain.{PlainIsAccepted}
 use Rattle.rewrite_core.specs.Met.{IsRewritable}
 use Rattle.rewrite_core.specs.Rewrites.{IsWritten, IsRefused, by_image, not_yet}
 use Rattle.sw_host.specs.Told.{Told}
+use Rattle.sw_host.specs.Calls.{called, fails, loaded}
 use Rattle.sw_top.specs.declared.end.End.{End}
 use Rattle.sw_top.specs.declared.end.End.TheVariants.{Done, Usage, TooLong, Refused, Host, Memory}
 use Rattle.sw_top.specs.Words.{Names, IsRewrite}
 use Rattle.sw_top.specs.Performs.{input, limit, greatest_size, IsInput, IsOverlong, IsLoaded, Fails, load_fails, out_fails, map_fails}
 use Rattle.sw_top.specs.Serves.{Serves}
-use Rattle.sw_top.specs.Decides.{IsOrMemory, Decides}
+use Rattle.sw_top.specs.Decides.{IsGiven, IsOrMemory, Decides}
 
 no_refusal : (file : List ℕ) (o : Option Refusal) (image : Image) → image_if file o ≡ Ok image → o ≡ None
 no_refusal file None image e = refl
@@ -72,6 +75,35 @@ module _ (names : Names) (a : Told) where
       let size = subst (λ f. length f ≡ limit) same q.full in
       omega (arith, size, p.fits)
 
+-- a load that gave something wasn't to fail
+gives : (n : ℕ) (b : Bool) (o : Option (List ℕ)) (front : List ℕ) → cond b None (option_map (take n) o) ≡ Some front → b ≡ false
+gives n true o front e = cc
+gives n false o front e = refl
+
+loads : (names : Names) (a : Told) (front : List ℕ) → input names a ≡ Some front → fails (called a) ≡ false
+unfolding loaded
+loads names a front e = gives limit (fails (called a)) (get (called a).files names.from) front e
+
+given_input : (names : Names) (a : Told) (file : List ℕ) → IsInput names a file → IsGiven names a file
+given_input names a file p = record { loads = loads names a file p.gave; whole = p.whole }
+
+given_overlong : (names : Names) (a : Told) → (o : IsOverlong names a) → IsGiven names a o.file
+given_overlong names a o = record { loads = loads names a o.front o.gave; whole = o.whole }
+
+-- what the load of a file that is given gives
+front_of : (names : Names) (a : Told) (file : List ℕ) → IsGiven names a file → input names a ≡ Some (take limit file)
+unfolding loaded called
+front_of names a file g = rw (g.loads, g.whole) refl
+
+input_of : (names : Names) (a : Told) (file : List ℕ) → IsGiven names a file → length file ≤ greatest_size → IsInput names a file
+input_of names a file g h =
+    record { gave = front_of names a file g ∙ ap Some (take_all limit file (omega (arith, h))); fits = h; whole = g.whole }
+
+overlong_of : (names : Names) (a : Told) (file : List ℕ) → IsGiven names a file → greatest_size < length file → IsOverlong names a
+overlong_of names a file g h =
+    let size : length (take limit file) ≡ min limit (length file) = length-take limit file in
+    record { front = take limit file; gave = front_of names a file g; full = omega (arith, size, h); file = file; whole = g.whole; over = h }
+
 -- what a call found, by its answer
 data Outcome (names : Names) (a : Told) (end : End) : Type 0 where
   is_done : end ≡ Done → (out : List ℕ) → IsLoaded names a out → Outcome names a end
@@ -99,13 +131,13 @@ outcome words Host a b names form s =
 outcome words Memory a b names form s = is_wanting refl
 
 module _ (names : Names) (a : Told) (end : End) where
-  no_file : input names a ≡ None → Outcome names a end → IsOrMemory Host end
-  no_file e (is_done is out l) = absurd (given names a l.file l.is_input e)
-  no_file e (is_long is o) = absurd (given_front names a o e)
-  no_file e (is_refused file r is p h) = absurd (given names a file p e)
-  no_file e (is_unloaded is none) = inl is
-  no_file e (is_unstored is out l) = inl is
-  no_file e (is_wanting is) = inr is
+  no_file : ((file : List ℕ) → IsGiven names a file → ⊥) → Outcome names a end → IsOrMemory Host end
+  no_file none (is_done is out l) = absurd (none l.file (given_input names a l.file l.is_input))
+  no_file none (is_long is o) = absurd (none o.file (given_overlong names a o))
+  no_file none (is_refused file r is p h) = absurd (none file (given_input names a file p))
+  no_file none (is_unloaded is e) = inl is
+  no_file none (is_unstored is out l) = inl is
+  no_file none (is_wanting is) = inr is
 
   too_long : IsOverlong names a → Outcome names a end → IsOrMemory TooLong end
   too_long o (is_done is out l) = absurd (not_both names a l.file l.is_input o)
@@ -140,8 +172,12 @@ module _ (names : Names) (a : Told) (end : End) where
 
 pub decides : PlainIsAccepted → (words : List (List ℕ)) (end : End) (rose : Type 0) (a b : Told) → (end ≡ Host → rose) → Serves words end a b → Decides words end rose a b
 decides law words end rose a b cause s = record {
-  no_file = λ names form e. no_file names a end e (outcome words end a b names form s);
-  too_long = λ names form o. too_long names a end o (outcome words end a b names form s);
-  refused = λ names form file p r h. refused names a end file p r h (outcome words end a b names form s);
-  done = λ names form file p t still. done names a end file p law t (λ e. still (cause e)) (outcome words end a b names form s);
+  no_file = λ names form none. no_file names a end none (outcome words end a b names form s);
+  file = λ names form file g.
+      let found = outcome words end a b names form s in
+      record {
+        too_long = λ over. too_long names a end (overlong_of names a file g over) found;
+        refused = λ fits r h. refused names a end file (input_of names a file g fits) r h found;
+        done = λ fits t still. done names a end file (input_of names a file g fits) law t (λ e. still (cause e)) found;
+      };
 }

@@ -1,15 +1,12 @@
 -- What is done is told of files.
-use Rattle.std.proofs.Common.{◌≡◌, ◌≢◌, ℕ, ◌<◌, Bool, true, false, cond, List, take, length, min, Option, Some, None, option_map, sym, ap, ◌∙◌, arith, length-take}
-use Rattle.std.proofs.lemmas.List.{take_all}
-use Rattle.std.proofs.lemmas.Bool.{and_parts, eqb-true}
+use Rattle.std.proofs.Common.{◌≡◌, ◌≢◌, ℕ, List, Some, ap, ◌∙◌}
 use Rattle.std.specs.FinMap.{get}
-use Rattle.elf_image.specs.Plain.{is_plain}
 use Rattle.sw_host.proofs.FileLemmas.{get-insert_same, get-insert_other}
 use Rattle.sw_host.specs.Told.{Told}
-use Rattle.sw_host.specs.Calls.{called, fails, loaded, with_file}
+use Rattle.sw_host.specs.Calls.{called, with_file}
 use Rattle.sw_top.specs.declared.end.End.TheVariants.{Done}
 use Rattle.sw_top.specs.Words.{Names}
-use Rattle.sw_top.specs.Performs.{limit, map_text, Finishes, stored_out, stored_both}
+use Rattle.sw_top.specs.Performs.{map_text, Finishes, stored_out, stored_both}
 use Rattle.sw_top.specs.Serves.{Serves}
 use Rattle.sw_top.specs.Headline.{Rewrote}
 

@@ -1,17 +1,16 @@
 -- What the calls leave, read off what they do.
-use Rattle.std.proofs.Common.{◌≡◌, ◌≢◌, ◌⊎◌, inl, inr, ℕ, ◌+◌, ◌<◌, ◌^◌, min, false, List, [], ◌∷◌, ◌++◌, Option, Some, None, Result, Ok, Err, refl, sym, ap, subst, ◌∙◌, arith}
+use Rattle.std.proofs.Common.{◌≡◌, ◌≢◌, ◌⊎◌, inl, inr, ℕ, ◌+◌, ◌<◌, ◌^◌, min, false, List, [], ◌∷◌, ◌++◌, Some, Result, Ok, Err, sym, ap, subst, ◌∙◌, arith}
 use Rattle.std.specs.FinMap.{get}
-use Rattle.elf_image.specs.declared.refusal.Refusal.{Refusal}
 use Rattle.sw_host.specs.declared.host.HostFault.{HostFault}
 use Rattle.sw_host.specs.declared.host.HostFault.TheVariants.{Failed, Memory}
 use Rattle.sw_host.specs.Told.{Told, last_count}
-use Rattle.sw_host.specs.Calls.{called, fails, with_file, with_line, Spoils, Lines}
+use Rattle.sw_host.specs.Calls.{called, fails, with_file, with_line, Lines}
 use Rattle.sw_top.specs.declared.end.End.{End}
 use Rattle.sw_top.specs.declared.end.End.TheVariants.{Done, Usage, TooLong, Refused, Host, Memory as NoMemory}
 use Rattle.sw_top.specs.Words.{Names, IsRewrite}
-use Rattle.sw_top.specs.Performs.{stored_out, stored_both, SpoilsOut, SpoilsMap, Finishes, Fails, load_fails, out_fails, map_fails, Wants, before_stores as wants_before, in_out as wants_out, in_map as wants_map}
+use Rattle.sw_top.specs.Performs.{SpoilsOut, SpoilsMap, Finishes, Fails, load_fails, out_fails, map_fails, Wants, before_stores as wants_before, in_out as wants_out, in_map as wants_map}
 use Rattle.sw_top.specs.Serves.{Serves}
-use Rattle.sw_top.specs.Leaves.{Made, KeepsFiles, LosesOut, HasOut, LosesMap, HasBoth, AfterFault, before_stores, in_out, in_map, LeavesFiles, LeavesLines, Leaves}
+use Rattle.sw_top.specs.Leaves.{KeepsFiles, LosesOut, LosesMap, HasBoth, AfterFault, before_stores, in_out, in_map, LeavesLines, Leaves}
 use Rattle.sw_top.proofs.Headlines.{stored_file, other_files, has_map, has_out, keeps}
 
 -- one more call, up to the last number

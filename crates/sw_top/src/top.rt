@@ -15,8 +15,8 @@ use elf_image::image_laws;
 use std::alloc::Global;
 use sw_host::Host;
 
-/// Serves `rewrite IN OUT MAP`, OUT and MAP different: loads IN, stores the new file as OUT and the text of its map as
-/// MAP. Then it says the line of its end, where that has one; a line that fails changes nothing. Memory can be wanting at
+/// Serves `rewrite IN OUT MAP`, OUT and MAP different: loads IN, which may have 16 MiB, stores the new file as OUT and the
+/// text of its map as MAP. Then it says the line of its end, where that has one; a line that fails changes nothing. Memory can be wanting at
 /// any place from the load on; what was stored before stays.
 pub fn sw<H: Host>(alloc: Global, words: &[String], host: &mut H) -> End
     ensures serves { Tells (H.told host.old) (H.told host.new) (Serves (texts words.now) result) }
