@@ -1,9 +1,7 @@
 -- A line of hexadecimal bytes, two digits each, in either case, with white space before and after bytes.
-use Rattle.std.specs.Prelude.{◌≡◌, ◌↔◌, ℕ, ◌+◌, ◌*◌, ◌-◌, ◌%◌, ◌&&◌, ◌||◌, ◌==◌, nat_le, if◌then◌else◌, Bool, List, [], ◌∷◌, ◌++◌, take, Option, Some, None}
-use Rattle.x86_types.specs.declared.instr.Instr.{Instr}
-use Rattle.x86_grammar.specs.Fronts.{FrontSpells, IsShort, IsOutside}
+use Rattle.std.specs.Prelude.{ℕ, ◌+◌, ◌*◌, ◌-◌, ◌%◌, ◌&&◌, ◌||◌, ◌==◌, nat_le, if◌then◌else◌, Bool, List, [], ◌∷◌, ◌++◌, take, Option, Some, None}
 use Rattle.x86_decode.specs.declared.decoding.Decoded.{Decoded}
-use Rattle.x86_decode.specs.declared.decoding.Decoded.TheVariants.{One, Short, Outside}
+use Rattle.x86_decode.specs.Decodes.{Decodes}
 use Rattle.instruction_table.specs.declared.line.Line.{Line}
 use Rattle.instruction_table.specs.declared.line.Seen.{Seen}
 use Rattle.instruction_table.specs.declared.line.Seen.TheVariants.{Whole, Begun, NotBytes}
@@ -43,12 +41,6 @@ taken_in NotBytes bytes c = record { seen = NotBytes; front = bytes }
 -- one more character
 abbrev pub taken : Line → ℕ → Line
 taken line c = taken_in line.seen line.front c
-
--- what the bytes begin with
-pub record Decodes (bytes : List ℕ) (d : Decoded) : Type 0 where
-  pub one : (i : Instr) (len : ℕ) → (d ≡ One i len) ↔ FrontSpells bytes i len
-  pub short : (d ≡ Short) ↔ IsShort bytes
-  pub outside : (d ≡ Outside) ↔ IsOutside bytes
 
 -- a line of whole bytes says what they begin with, and every other line nothing
 abbrev pub Says : Seen → List ℕ → Option Decoded → Type 0

@@ -1,6 +1,6 @@
 // The first bytes of a list.
 ghost use Rattle.std.specs.Prelude.{◌≡◌, [], ◌∷◌, ◌++◌, take};
-ghost use Rattle.instruction_table.specs.Lines.{Decodes};
+ghost use Rattle.x86_decode.specs.Decodes.{Decodes};
 
 use std::marker::Model;
 use x86_decode::{Decoded, decode};

@@ -20,7 +20,7 @@ so_far_next bytes old new less g before e rest =
     let some : 0 < length (drop at bytes) = omega (arith, less, length-drop at bytes) in
     let same : drop (bytes_of new) bytes ≡ drop p (drop at bytes) = ap (λ (n : ℕ). drop n bytes) g.sum ∙ sym (drop-drop p at bytes) in
     let then : Sweeps (drop p (drop at bytes)) new e = subst (λ (l : List ℕ). Sweeps l new e) same rest in
-    before e (next (drop at bytes) old e g.front some g.begins (subst (λ (c : Counts). Sweeps (drop p (drop at bytes)) c e) g.is then))
+    before e (next (drop at bytes) old e g.front some g.decodes (subst (λ (c : Counts). Sweeps (drop p (drop at bytes)) c e) g.is then))
 
 pub so_far_whole : (bytes : List ℕ) (seen : Counts) → length bytes ≤ bytes_of seen → IsSoFar bytes seen → Sweeps bytes no_counts seen
 so_far_whole bytes seen le before = before seen (subst (λ (l : List ℕ). Sweeps l seen seen) (sym (drop_all (bytes_of seen) bytes le)) (end seen))

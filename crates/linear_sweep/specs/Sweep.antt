@@ -1,10 +1,9 @@
 -- What a linear sweep counts: from the first byte on, at a spelling one instruction and all its bytes, and else one
 -- byte.
-use Rattle.std.specs.Prelude.{◌≡◌, ◌↔◌, ℕ, ◌+◌, ◌<◌, ◌≤◌, List, [], drop, length}
-use Rattle.x86_types.specs.declared.instr.Instr.{Instr}
-use Rattle.x86_grammar.specs.Fronts.{FrontSpells, IsShort, IsOutside}
+use Rattle.std.specs.Prelude.{◌≡◌, ℕ, ◌+◌, ◌<◌, ◌≤◌, List, [], drop, length}
 use Rattle.x86_decode.specs.declared.decoding.Decoded.{Decoded}
 use Rattle.x86_decode.specs.declared.decoding.Decoded.TheVariants.{One, Outside, Short}
+use Rattle.x86_decode.specs.Decodes.{Decodes}
 use Rattle.linear_sweep.specs.declared.linear.Counts.{Counts}
 
 -- the bytes that are counted so far
@@ -13,12 +12,6 @@ bytes_of c = c.spelled + (c.outside + c.short)
 
 abbrev pub no_counts : Counts
 no_counts = record { instructions = 0; spelled = 0; outside = 0; short = 0 }
-
--- what the bytes begin with
-pub record Begins (bytes : List ℕ) (d : Decoded) : Type 0 where
-  pub one : (i : Instr) (len : ℕ) → (d ≡ One i len) ↔ FrontSpells bytes i len
-  pub short : (d ≡ Short) ↔ IsShort bytes
-  pub outside : (d ≡ Outside) ↔ IsOutside bytes
 
 -- the bytes that one step passes
 abbrev pub passed : Decoded → ℕ
@@ -35,12 +28,12 @@ counted c Short = record { instructions = c.instructions; spelled = c.spelled; o
 -- a sweep over the bytes, with the counts before and after it
 pub data Sweeps : List ℕ → Counts → Counts → Type 0 where
   end : (c : Counts) → Sweeps [] c c
-  next : (bytes : List ℕ) (old new : Counts) (d : Decoded) → 0 < length bytes → Begins bytes d → Sweeps (drop (passed d) bytes) (counted old d) new → Sweeps bytes old new
+  next : (bytes : List ℕ) (old new : Counts) (d : Decoded) → 0 < length bytes → Decodes bytes d → Sweeps (drop (passed d) bytes) (counted old d) new → Sweeps bytes old new
 
 -- one step: some bytes more are counted, no more than are left, and each instruction has a byte
 pub record Grows (bytes : List ℕ) (old new : Counts) : Type 0 where
   pub front : Decoded
-  pub begins : Begins bytes front
+  pub decodes : Decodes bytes front
   pub is : new ≡ counted old front
   pub sum : bytes_of new ≡ bytes_of old + passed front
   pub some : bytes_of old < bytes_of new

@@ -1,4 +1,4 @@
-use Rattle.std.proofs.Common.{◌≡◌, List, ℕ, Option, Some, None, take, refl, subst}
+use Rattle.std.proofs.Common.{List, ℕ, Some, take, refl, subst}
 use Rattle.x86_types.specs.declared.instr.Instr.{Instr}
 use Rattle.x86_grammar.specs.Fields.{HasSpelling}
 use Rattle.x86_decode.specs.declared.decoding.Decoded.{Decoded}

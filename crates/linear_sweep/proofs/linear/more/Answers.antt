@@ -22,7 +22,7 @@ returns-in-One c =
     let p = passes c.args.bytes.now c.in-One.field-0 c.in-One.length c.spelling_is_short.ensures.some ((c.decode.ensures.one c.in-One.field-0 c.in-One.length).0 c.in-One.is) in
     record {
       front = c.decode.result;
-      begins = record { one = c.decode.ensures.one; short = c.decode.ensures.short; outside = c.decode.ensures.outside };
+      decodes = record { one = c.decode.ensures.one; short = c.decode.ensures.short; outside = c.decode.ensures.outside };
       is = rw c.in-One.is refl;
       sum = rw c.in-One.is (omega arith);
       some = omega (arith, p.some);

@@ -1,5 +1,5 @@
 use Rattle.std.proofs.Common.{List, ℕ, subst}
-use Rattle.instruction_table.specs.Lines.{Decodes}
+use Rattle.x86_decode.specs.Decodes.{Decodes}
 use Rattle.instruction_table.proofs.front.Front.decoded.Goals as goal
 
 pub returns : goal.returns

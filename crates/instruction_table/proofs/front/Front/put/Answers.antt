@@ -1,4 +1,4 @@
-use Rattle.std.proofs.Common.{◌≡◌, sym, ◌∙◌, [], ◌∷◌, take, length, arith, length-take}
+use Rattle.std.proofs.Common.{◌≡◌, sym, ◌∙◌, [], ◌∷◌, length, arith, length-take}
 use Rattle.std.proofs.lemmas.List.{take_all, take-append-le}
 use Rattle.instruction_table.proofs.front.Front.put.Goals as goal
 
