@@ -1,12 +1,12 @@
 -- What the fields of a host in memory tell.
-use Rattle.std.proofs.Common.{◌≡◌, ℕ, ◌+◌, ◌==◌, ◌||◌, ◌<◌, Bool, cond, List, [], ◌∷◌, ◌++◌, map, length, drop, get_or, Some, Result, Ok, Err, refl, sym, ap, ◌∙◌, add-one, drop-cons, arith}
+use Rattle.std.proofs.Common.{◌≡◌, ℕ, ◌+◌, ◌==◌, ◌||◌, ◌<◌, Bool, cond, List, [], ◌∷◌, ◌++◌, map, length, drop, get_or, Some, Result, Ok, Err, refl, sym, ap, ◌∙◌, subst, add-one, drop-cons, arith}
 use Rattle.std.proofs.lemmas.Grind.{common_steps}
 use Rattle.std.proofs.lemmas.List.Folds.{list_any-append}
 use Rattle.std.specs.Bool.{nat_eq}
 use Rattle.std.proofs.lemmas.Cmp.{nat_list_cmp_total}
 use Rattle.std.specs.Cmp.Lexicographic.{pointwise, texts_ties}
 use Rattle.std.specs.FinMap.{get, get-from_entries}
-use Rattle.sw_host.specs.Told.{HasCause}
+use Rattle.sw_host.specs.Told.{Told, Tells, HasCause}
 use Rattle.sw_host.specs.declared.host.HostFault.{HostFault}
 use Rattle.sw_host.specs.declared.host.HostFault.TheVariants.{Failed, Memory}
 use Rattle.sw_host.specs.Memory.{entry, files_of, find_file, fails_at, CountsFault}
@@ -42,5 +42,12 @@ pub HasCause-counted : {T : Type 0} (before now : ℕ) (r : Result T HostFault) 
 HasCause-counted before now (Ok x) e = omega arith
 HasCause-counted before now (Err Failed) e = (omega (arith, e.0, e.1), omega (arith, e.0, e.1))
 HasCause-counted before now (Err Memory) e = omega arith
+
+same_told : (a b : Told) → Some a ≡ Some b → a ≡ b
+same_told a b e = cc
+
+-- of a host that tells before and after, what holds of the two is told
+pub plainly_tells : (x y : Told) (P : Told → Told → Type 0) → P x y → Tells (Some x) (Some y) P
+plainly_tells x y P p = record { at = λ a e. (y, refl, subst (λ t. P t y) (same_told x a e) p) }
 
 pub ruleset telling = (get-files_of, fails_at-push)

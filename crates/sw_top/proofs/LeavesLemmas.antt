@@ -11,7 +11,7 @@ use Rattle.sw_top.specs.Words.{Names, IsRewrite}
 use Rattle.sw_top.specs.Performs.{SpoilsOut, SpoilsMap, Finishes, Fails, load_fails, out_fails, map_fails, Wants, before_stores as wants_before, in_out as wants_out, in_map as wants_map}
 use Rattle.sw_top.specs.Serves.{Serves}
 use Rattle.sw_top.specs.Leaves.{KeepsFiles, LosesOut, LosesMap, HasBoth, AfterFault, before_stores, in_out, in_map, LeavesLines, Leaves}
-use Rattle.sw_top.proofs.Headlines.{stored_file, other_files, has_map, has_out, keeps}
+use Rattle.sw_top.proofs.Headlines.{FileLaws, has_map, has_out, keeps}
 
 -- one more call, up to the last number
 abbrev next : ℕ → ℕ
@@ -90,7 +90,7 @@ module _ (names : Names) (a m : Told) (s : SpoilsOut names a m) where
   }
 
 -- the store of MAP
-module _ (names : Names) (a m : Told) (s : SpoilsMap names a m) where
+module _ (laws : FileLaws) (names : Names) (a m : Told) (s : SpoilsMap names a m) where
   map_calls : m.calls ≡ next (next (next a.calls))
   unfolding called with_file
   map_calls = ap (λ t. t.calls) s.after.same
@@ -101,11 +101,11 @@ module _ (names : Names) (a m : Told) (s : SpoilsMap names a m) where
 
   map_has : names.to ≢ names.map → get m.files names.to ≡ Some s.out
   unfolding called
-  map_has apart = s.after.others names.to apart ∙ stored_file (called (called a)) names.to s.out
+  map_has apart = s.after.others names.to apart ∙ laws.stored_file (called (called a)) names.to s.out
 
   map_others : (q : List ℕ) → q ≢ names.to → q ≢ names.map → get m.files q ≡ get a.files q
   unfolding called
-  map_others q p r = s.after.others q r ∙ other_files (called (called a)) names.to s.out q p
+  map_others q p r = s.after.others q r ∙ laws.other_files (called (called a)) names.to s.out q p
 
   loses_map : (text : List ℕ) (b : Told) → names.to ≢ names.map → AddsLine text m b → LosesMap names a b
   loses_map text b apart line =
@@ -125,7 +125,7 @@ module _ (names : Names) (a m : Told) (s : SpoilsMap names a m) where
       }
 
 -- both stores
-module _ (names : Names) (a b : Told) (f : Finishes names a b) where
+module _ (laws : FileLaws) (names : Names) (a b : Told) (f : Finishes names a b) where
   both_calls : b.calls ≡ next (next (next a.calls))
   unfolding called with_file
   both_calls = ap (λ t. t.calls) f.after
@@ -146,43 +146,43 @@ module _ (names : Names) (a b : Told) (f : Finishes names a b) where
               had = l.is_input.whole;
               fits = l.is_input.fits;
               written = l.written;
-              has = ap (λ t. get t.files names.to) f.after ∙ has_out a names f.out apart;
-              others = λ q p r. ap (λ t. get t.files q) f.after ∙ keeps a names f.out q p r;
+              has = ap (λ t. get t.files names.to) f.after ∙ has_out laws a names f.out apart;
+              others = λ q p r. ap (λ t. get t.files q) f.after ∙ keeps laws a names f.out q p r;
             };
-        map = ap (λ t. get t.files names.map) f.after ∙ has_map a names f.out;
+        map = ap (λ t. get t.files names.map) f.after ∙ has_map laws a names f.out;
       }
 
-module _ (words : List (List ℕ)) (names : Names) (form : IsRewrite words names) (text : List ℕ) (a m b : Told) (line : AddsLine text m b) where
+module _ (laws : FileLaws) (words : List (List ℕ)) (names : Names) (form : IsRewrite words names) (text : List ℕ) (a m b : Told) (line : AddsLine text m b) where
   after_fails : Fails names a m → AfterFault words a b × LeavesLines (Some text) a b
   after_fails (load_fails e after) = (before_stores (keeps_files a m after text b line), lines_from text a m b line (loaded_lines a m after))
   after_fails (out_fails s e) = (in_out names form (loses_out names a m s text b line), lines_from text a m b line (out_lines names a m s))
-  after_fails (map_fails s e) = (in_map names form (loses_map names a m s text b form.apart line), lines_from text a m b line (map_lines names a m s))
+  after_fails (map_fails s e) = (in_map names form (loses_map laws names a m s text b form.apart line), lines_from text a m b line (map_lines laws names a m s))
 
   after_wants : Wants names a m → AfterFault words a b × LeavesLines (Some text) a b
   after_wants (wants_before after) = (before_stores (keeps_files a m after text b line), lines_from text a m b line (loaded_lines a m after))
   after_wants (wants_out s) = (in_out names form (loses_out names a m s text b line), lines_from text a m b line (out_lines names a m s))
-  after_wants (wants_map s) = (in_map names form (loses_map names a m s text b form.apart line), lines_from text a m b line (map_lines names a m s))
+  after_wants (wants_map s) = (in_map names form (loses_map laws names a m s text b form.apart line), lines_from text a m b line (map_lines laws names a m s))
 
-pub leaves : (words : List (List ℕ)) (end : End) (a b : Told) → Serves words end a b → Leaves words end a b
-leaves words Done a b s =
+pub leaves : FileLaws → (words : List (List ℕ)) (end : End) (a b : Told) → Serves words end a b → Leaves words end a b
+leaves laws words Done a b s =
     let f : Finishes s.names a b = subst (λ t. Finishes s.names a t) (sym s.reports) s.performs in
-    record { files = (s.names, s.form, has_both s.names a b f s.form.apart); lines = both_lines s.names a b f }
-leaves words Usage a b s =
+    record { files = (s.names, s.form, has_both laws s.names a b f s.form.apart); lines = both_lines laws s.names a b f }
+leaves laws words Usage a b s =
     let line = adds_line _ s.reports.0 a b s.reports.1 in
     record { files = record { calls = once a.calls b.calls line.calls; files = line.files }; lines = line.lines }
-leaves words TooLong a b s =
+leaves laws words TooLong a b s =
     let line = adds_line _ s.reports.0 s.before_line b s.reports.1 in
     let after = s.performs.after in
     record { files = keeps_files a s.before_line after _ b line; lines = lines_from _ a s.before_line b line (loaded_lines a s.before_line after) }
-leaves words (Refused r) a b s =
+leaves laws words (Refused r) a b s =
     let line = adds_line _ s.reports.0 s.before_line b s.reports.1 in
     let after = s.performs.after in
     record { files = keeps_files a s.before_line after _ b line; lines = lines_from _ a s.before_line b line (loaded_lines a s.before_line after) }
-leaves words Host a b s =
+leaves laws words Host a b s =
     let line = adds_line _ s.reports.0 s.before_line b s.reports.1 in
-    let both = after_fails words s.names s.form _ a s.before_line b line s.performs in
+    let both = after_fails laws words s.names s.form _ a s.before_line b line s.performs in
     record { files = both.0; lines = both.1 }
-leaves words NoMemory a b s =
+leaves laws words NoMemory a b s =
     let line = adds_line _ s.reports.0 s.before_line b s.reports.1 in
-    let both = after_wants words s.names s.form _ a s.before_line b line s.performs in
+    let both = after_wants laws words s.names s.form _ a s.before_line b line s.performs in
     record { files = both.0; lines = both.1 }

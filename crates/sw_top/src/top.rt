@@ -13,7 +13,7 @@ use crate::perform::perform;
 use crate::words::files_in;
 use elf_image::image_laws;
 use std::alloc::Global;
-use sw_host::Host;
+use sw_host::{Host, host_laws};
 
 /// Serves `rewrite IN OUT MAP`, OUT and MAP different: loads IN, which may have 16 MiB, stores the new file as OUT and the
 /// text of its map as MAP. Then it says the line of its end, where that has one; a line that fails changes nothing. Memory can be wanting at
@@ -33,6 +33,7 @@ pub fn sw<H: Host>(alloc: Global, words: &[String], host: &mut H) -> End
     ensures cause { result ≡ End.Host → Rose (H.faults host.old) (H.faults host.new) }
 {
     image_laws();
+    host_laws();
     let Some(files) = files_in(words) else {
         report(&End::Usage, host);
         return End::Usage;

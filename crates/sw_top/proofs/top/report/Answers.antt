@@ -1,6 +1,6 @@
 use Rattle.std.proofs.Common.{ℕ, List, Option, Some, refl, sym, subst}
 use Rattle.sw_host.specs.Told.{Tells}
-use Rattle.sw_host.proofs.Chain.{tells_map, tells_none}
+use Rattle.sw_top.proofs.Chain.{tells_map, tells_none}
 use Rattle.sw_top.specs.Serves.{Says}
 use Rattle.sw_top.proofs.TellLemmas.{has_cause}
 use Rattle.sw_top.proofs.top.report.Goals as goal

@@ -1,12 +1,12 @@
 use Rattle.std.proofs.Common.{subst}
-use Rattle.sw_host.proofs.Chain.{tells_map, tells_then}
+use Rattle.sw_top.proofs.Chain.{tells_map, tells_then}
 use Rattle.sw_top.specs.Words.{Names, texts}
 use Rattle.sw_top.specs.Serves.{Serves}
 use Rattle.sw_top.proofs.TellLemmas.{served, rose_after}
 use Rattle.sw_top.proofs.LeavesLemmas.{leaves}
 use Rattle.sw_top.proofs.DecidesLemmas.{decides}
 use Rattle.sw_top.specs.declared.end.End.TheVariants.{Usage}
-use Rattle.sw_top.proofs.Headlines.{rewrote}
+use Rattle.sw_top.proofs.Headlines.{FileLaws, rewrote}
 use Rattle.sw_top.proofs.top.sw.Goals as goal
 
 pub returns-in_default-clause-serves : goal.returns-in_default-clause-serves
@@ -14,7 +14,8 @@ returns-in_default-clause-serves g c = tells_map _ _ _ _ c.report.ensures.report
 
 pub returns-in_default-clause-leaves : goal.returns-in_default-clause-leaves
 returns-in_default-clause-leaves g c =
-    tells_map _ _ _ _ c.report.ensures.reports (λ a b p. leaves (texts c.args.words.now) Usage a b (record { form = c.in_default.ensures; reports = p }))
+    let laws : FileLaws = record { stored_file = c.host_laws.ensures.stored_file; other_files = c.host_laws.ensures.other_files } in
+    tells_map _ _ _ _ c.report.ensures.reports (λ a b p. leaves laws (texts c.args.words.now) Usage a b (record { form = c.in_default.ensures; reports = p }))
 
 pub returns-in_default-clause-decides : goal.returns-in_default-clause-decides
 returns-in_default-clause-decides g c =
@@ -28,10 +29,11 @@ returns-clause-serves g c =
 
 pub returns-clause-leaves : goal.returns-clause-leaves
 returns-clause-leaves g c =
+    let laws : FileLaws = record { stored_file = c.host_laws.ensures.stored_file; other_files = c.host_laws.ensures.other_files } in
     let names : Names = record { from = c.in-Some.files.from.now; to = c.in-Some.files.to.now; map = c.in-Some.files.map.now } in
     let words = texts c.args.words.now in
     tells_then _ _ _ _ _ _ c.perform-end.ensures.performs c.report-2.ensures.reports
-    (λ a b d p q. leaves words c.perform-end.result a d (served words names c.perform-end.result a b d c.in-Some.ensures p q))
+    (λ a b d p q. leaves laws words c.perform-end.result a d (served words names c.perform-end.result a b d c.in-Some.ensures p q))
 
 pub returns-clause-decides : goal.returns-clause-decides
 returns-clause-decides g c =
@@ -42,7 +44,8 @@ returns-clause-decides g c =
 
 pub returns-clause-headline : goal.returns-clause-headline
 returns-clause-headline g c e =
+    let laws : FileLaws = record { stored_file = c.host_laws.ensures.stored_file; other_files = c.host_laws.ensures.other_files } in
     let names : Names = record { from = c.in-Some.files.from.now; to = c.in-Some.files.to.now; map = c.in-Some.files.map.now } in
     let words = texts c.args.words.now in
     tells_then _ _ _ _ _ _ c.perform-end.ensures.performs c.report-2.ensures.reports
-    (λ a b d p q. rewrote words a d (subst (λ end. Serves words end a d) e (served words names c.perform-end.result a b d c.in-Some.ensures p q)))
+    (λ a b d p q. rewrote laws words a d (subst (λ end. Serves words end a d) e (served words names c.perform-end.result a b d c.in-Some.ensures p q)))

@@ -1,7 +1,6 @@
 use Rattle.sw_host.specs.Calls.{Loads, Stores, Lines}
 use Rattle.sw_host.specs.Memory.{told_by, faults_of}
-use Rattle.sw_host.proofs.Chain.{plainly_tells}
-use Rattle.sw_host.proofs.MemoryLemmas.{HasCause-counted}
+use Rattle.sw_host.proofs.MemoryLemmas.{HasCause-counted, plainly_tells}
 use Rattle.sw_host.proofs.memory.MemoryHostHost.TheImpl.Goals as goal
 
 pub load-tells : goal.load-tells

@@ -1,5 +1,5 @@
--- What several calls tell together.
-use Rattle.std.proofs.Common.{◌≡◌, Option, Some, refl, sym, subst}
+-- What several calls tell together, read off what it is to tell.
+use Rattle.std.proofs.Common.{Option}
 use Rattle.sw_host.specs.Told.{Told, Tells}
 
 -- no call
@@ -28,15 +28,3 @@ tells_three o p q r P Q R S t u v f = record {
       let three = v.at two.0 two.1 in
       (three.0, three.1, f a one.0 two.0 three.0 one.2 two.2 three.2);
 }
-
-unSome : (a b : Told) → Some a ≡ Some b → a ≡ b
-unSome a b e = cc
-
--- of a host that tells, the relation holds of what it tells
-pub tells_plainly : (x y : Told) (P : Told → Told → Type 0) → Tells (Some x) (Some y) P → P x y
-tells_plainly x y P t =
-    let one = t.at x refl in
-    subst (λ b. P x b) (sym (unSome y one.0 one.1)) one.2
-
-pub plainly_tells : (x y : Told) (P : Told → Told → Type 0) → P x y → Tells (Some x) (Some y) P
-plainly_tells x y P p = record { at = λ a e. (y, refl, subst (λ t. P t y) (unSome x a e) p) }
