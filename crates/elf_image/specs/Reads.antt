@@ -1,11 +1,12 @@
 -- What the reading of a file answers.
-use Rattle.std.specs.Prelude.{◌≡◌, ℕ, List, Result, Ok, Err}
+use Rattle.std.specs.Prelude.{◌≡◌, ℕ, List, None, Result, Ok, Err}
 use Rattle.elf_image.specs.declared.image.Image.{Image}
 use Rattle.elf_image.specs.declared.refusal.Room.{Room}
 use Rattle.elf_image.specs.declared.refusal.Refusal.{Refusal}
 use Rattle.elf_image.specs.declared.refusal.ImageError.{ImageError}
 use Rattle.elf_image.specs.declared.refusal.ImageError.TheVariants.{Refused, Memory}
 use Rattle.elf_image.specs.Image.{image_of}
+use Rattle.elf_image.specs.Refusals.{first, header_tests}
 
 -- the file is accepted, and this is its image
 pub record IsImage (file : List ℕ) (room : Room) (image : Image) : Type 0 where
@@ -15,8 +16,8 @@ pub record IsImage (file : List ℕ) (room : Room) (image : Image) : Type 0 wher
 pub record IsRefused (file : List ℕ) (room : Room) (refusal : Refusal) : Type 0 where
   pub is : image_of file room ≡ Err refusal
 
--- the image of the file, or its first refusal; nothing is said where memory is wanting
+-- the image of the file, or its first refusal; memory is wanting only where no test of the file's header holds
 abbrev pub Reads : List ℕ → Room → Result Image ImageError → Type 0
 Reads file room (Ok image) = IsImage file room image
 Reads file room (Err (Refused refusal)) = IsRefused file room refusal
-Reads file room (Err Memory) = Unit {0}
+Reads file room (Err Memory) = first (header_tests file) ≡ None

@@ -1,9 +1,9 @@
 -- Small runs by turns.
 use Rattle.std.proofs.Common.{◌≡◌, ◌<◌, ◌≤◌, ℕ, zero, suc, List, [], ◌∷◌, ◌++◌, length, Option, Some, None, refl, sym, ap, ◌∙◌, arith, inl, inr, ⊎_elim, length-append}
 use Rattle.traces.specs.Trace.{Label, Turn, Code, End, Exited, Unspecified, Stopped, Behaviour, Grows, run, seen, events, turns}
+use Rattle.traces.specs.Laws.{ShowsOnce}
 use Rattle.traces.specs.Turns.{within_turns, ShowsByTurns, SameByTurns, SameWithin, Moment, Reached, TraceAt}
 use Rattle.traces.proofs.Runs.{run_grows}
-use Rattle.traces.proofs.Turns.{shows_once}
 use Rattle.trace_checks.specs.Played.{play, played, one, two}
 use Rattle.trace_checks.specs.TurnChecks.{RefusesMovedEvent, RefusesOtherAddress, RefusesLostMoment, RefusesLateGuard, RefusesEarlyReport, AllowsSplitEvents, AllowsLongTurn}
 
@@ -11,20 +11,20 @@ grows : (ls : List (List Label)) (e : End) → Grows (played ls e)
 grows ls e = run_grows (play e) ls
 
 -- what is seen of both within n turns is one
-both : (U V : Behaviour) → Grows U → Grows V → (n : ℕ) (ls ls' : List Label) (o o' : Option End) → (o ≡ Some Unspecified → ⊥) → SameByTurns U V → ShowsByTurns U n (seen ls o) → ShowsByTurns V n (seen ls' o') → ls ≡ ls'
-both U V g h n ls ls' o o' d p u v =
+both : ShowsOnce → (U V : Behaviour) → Grows U → Grows V → (n : ℕ) (ls ls' : List Label) (o o' : Option End) → (o ≡ Some Unspecified → ⊥) → SameByTurns U V → ShowsByTurns U n (seen ls o) → ShowsByTurns V n (seen ls' o') → ls ≡ ls'
+both once U V g h n ls ls' o o' d p u v =
     let c = p.same n in
-    let e = shows_once U g n c.common (seen ls o) c.first u in
-    let f = shows_once V h n c.common (seen ls' o') (c.second (λ z. d (sym (ap (λ s. s.end) e) ∙ z))) v in
+    let e = once U g n c.common (seen ls o) c.first u in
+    let f = once V h n c.common (seen ls' o') (c.second (λ z. d (sym (ap (λ s. s.end) e) ∙ z))) v in
     ap (λ s. s.trace) (sym e ∙ f)
 
-pub refuses_moved_event : RefusesMovedEvent
+pub refuses_moved_event : ShowsOnce → RefusesMovedEvent
 unfolding run
-refuses_moved_event p = let e = both _ _ (grows _ _) (grows _ _) 1 (Turn 1 ∷ one ∷ []) (Turn 1 ∷ []) None None (λ z. cc) p (record { steps = 3; past = inr (omega arith); shown = refl }) (record { steps = 2; past = inr (omega arith); shown = refl }) in cc
+refuses_moved_event once p = let e = both once _ _ (grows _ _) (grows _ _) 1 (Turn 1 ∷ one ∷ []) (Turn 1 ∷ []) None None (λ z. cc) p (record { steps = 3; past = inr (omega arith); shown = refl }) (record { steps = 2; past = inr (omega arith); shown = refl }) in cc
 
-pub refuses_other_address : RefusesOtherAddress
+pub refuses_other_address : ShowsOnce → RefusesOtherAddress
 unfolding run
-refuses_other_address p = let e = both _ _ (grows _ _) (grows _ _) 2 (Turn 1 ∷ Turn 2 ∷ []) (Turn 1 ∷ Turn 3 ∷ []) (Some (Exited 0)) (Some (Exited 0)) (λ z. cc) p (record { steps = 2; past = inl (λ z. cc); shown = refl }) (record { steps = 2; past = inl (λ z. cc); shown = refl }) in cc
+refuses_other_address once p = let e = both once _ _ (grows _ _) (grows _ _) 2 (Turn 1 ∷ Turn 2 ∷ []) (Turn 1 ∷ Turn 3 ∷ []) (Some (Exited 0)) (Some (Exited 0)) (λ z. cc) p (record { steps = 2; past = inl (λ z. cc); shown = refl }) (record { steps = 2; past = inl (λ z. cc); shown = refl }) in cc
 
 lost : (k : ℕ) → events (played ((Turn 1 ∷ one ∷ two ∷ []) ∷ []) (Exited 0) k).trace ≡ events (one ∷ []) → ⊥
 unfolding run
@@ -36,12 +36,12 @@ pub refuses_lost_moment : RefusesLostMoment
 unfolding run
 refuses_lost_moment p = let m = p.moments 1 in lost m.steps m.exact
 
-pub refuses_late_guard : RefusesLateGuard
+pub refuses_late_guard : ShowsOnce → RefusesLateGuard
 unfolding run
-refuses_late_guard p =
+refuses_late_guard once p =
     let g = p.guard 0 Code 5 refl in
     let s : ShowsByTurns (played ((Turn 5 ∷ []) ∷ (Turn 5 ∷ []) ∷ []) (Stopped 5)) 1 (seen (Turn 5 ∷ []) None) = record { steps = 2; past = inr (omega arith); shown = refl } in
-    let e = ap (λ x. x.end) (shows_once _ (grows _ _) 1 _ _ g.shows s) in
+    let e = ap (λ x. x.end) (once _ (grows _ _) 1 _ _ g.shows s) in
     cc
 
 early : (front report : List Label) → length report ≡ 1 → (Turn 4 ∷ one ∷ []) ≡ front ++ report → (Turn 4 ∷ one ∷ Turn 5 ∷ []) ≡ front ++ Turn 5 ∷ report → ⊥
@@ -50,19 +50,19 @@ early (x ∷ []) report h e f = cc
 early (x ∷ y ∷ front) report h e f = absurd (omega (arith, h, ap length e, length-append front report))
 
 -- what is seen of one within n turns has one trace
-same_labels : (R : Behaviour) → Grows R → (n : ℕ) (ls ls' : List Label) (o o' : Option End) → ShowsByTurns R n (seen ls o) → ShowsByTurns R n (seen ls' o') → ls ≡ ls'
-same_labels R g n ls ls' o o' u v = ap (λ s. s.trace) (shows_once R g n (seen ls o) (seen ls' o') u v)
+same_labels : ShowsOnce → (R : Behaviour) → Grows R → (n : ℕ) (ls ls' : List Label) (o o' : Option End) → ShowsByTurns R n (seen ls o) → ShowsByTurns R n (seen ls' o') → ls ≡ ls'
+same_labels once R g n ls ls' o o' u v = ap (λ s. s.trace) (once R g n (seen ls o) (seen ls' o') u v)
 
 -- no trace of the unit is where the report would have to be
 not_at : (c r : List Label) → c ≡ Turn 4 ∷ one ∷ [] → r ≡ Turn 4 ∷ one ∷ Turn 5 ∷ [] → TraceAt 1 5 c r → ⊥
 not_at c r h g f = ⊎_elim (λ e. let q = sym g ∙ e ∙ h in cc) (λ k. early k.front k.report k.shown (sym h ∙ k.cut) (sym g ∙ k.stop)) f
 
-pub refuses_early_report : RefusesEarlyReport
+pub refuses_early_report : ShowsOnce → RefusesEarlyReport
 unfolding run
-refuses_early_report p =
+refuses_early_report once p =
     let g = p.guard 2 Code 5 refl in
     let s : ShowsByTurns (played ((Turn 4 ∷ []) ∷ (one ∷ []) ∷ (Turn 5 ∷ []) ∷ []) (Stopped 5)) 3 (seen (Turn 4 ∷ one ∷ Turn 5 ∷ []) (Some (Stopped 5))) = record { steps = 3; past = inl (λ z. cc); shown = refl } in
-    not_at _ _ refl (same_labels _ (grows _ _) 3 _ _ _ _ g.shows s) g.fits
+    not_at _ _ refl (same_labels once _ (grows _ _) 3 _ _ _ _ g.shows s) g.fits
 
 pub allows_split_events : AllowsSplitEvents
 unfolding run

@@ -6,7 +6,7 @@ ghost use Rattle.trace_checks.specs.EndingChecks.{CountingEnds, ReportingEnds};
 ghost use Rattle.trace_checks.specs.TurnChecks.{AllowsLongTurn, AllowsSplitEvents, AllowsStepLeftOut, RefusesEarlyReport, RefusesLateGuard, RefusesLostMoment, RefusesMovedEvent, RefusesOtherAddress};
 ghost use Rattle.trace_checks.specs.WeightChecks.{WalkPaced};
 
-use traces::machine_laws;
+use traces::{agreement_laws, machine_laws, simulation_laws, turn_laws};
 
 /// Does nothing: its clauses say what agreement within `4096 * n + 256` steps refuses and lets pass.
 pub fn agreement_checks()
@@ -25,7 +25,8 @@ pub fn agreement_checks()
     ensures refuses_step_left_out { RefusesStepLeftOut }
 {}
 
-/// Does nothing: its clauses say what the relations by turns refuse and let pass.
+/// Calls the laws of runs alone, those of machines at states that are numbers: its clauses say what the relations by turns
+/// refuse and let pass.
 pub fn turn_checks()
     ensures refuses_moved_event { RefusesMovedEvent }
     ensures refuses_other_address { RefusesOtherAddress }
@@ -35,7 +36,12 @@ pub fn turn_checks()
     ensures allows_split_events { AllowsSplitEvents }
     ensures allows_long_turn { AllowsLongTurn }
     ensures allows_step_left_out { AllowsStepLeftOut }
-{}
+{
+    agreement_laws();
+    machine_laws::<u32>();
+    simulation_laws::<u32, u32, u32>();
+    turn_laws();
+}
 
 /// Does nothing: its clauses say that reports and counts are endings.
 pub fn ending_checks()

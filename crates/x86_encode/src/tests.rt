@@ -29,6 +29,14 @@ fn expect_wide(rt: &impl Abort, instr: Instr, wanted: &[u8]) {
     assert_eq!(rt; &out[..len], wanted, "{instr:?}");
 }
 
+/// Page "IMUL": of two operands there is none of one byte.
+#[test]
+fn no_spelling_of_one_byte(rt: HostRuntime) {
+    let from = Rm::Reg(Ecx);
+    assert!(rt; !has_spelling(&imul(One, Eax, from)));
+    assert!(rt; has_spelling(&imul(Four, Eax, from)));
+}
+
 /// Pages "ADC", "ADD", "AND", "CMP", "OR", "SBB", "SUB", "TEST" and "XOR".
 #[test]
 fn arithmetic_on_two_operands(rt: HostRuntime) {
