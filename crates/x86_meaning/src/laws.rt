@@ -2,15 +2,16 @@
 ghost use Rattle.x86_meaning.specs.Rows.{ExitsLow, ExitsSeven, Loops, MakesOtherCall, ReadStands, Reads, ReadsAndWrites, ReadsFromOne, ReadsIntoCode, ReadsNone, ReadsNothing, ReadsPastPage, StackIsStart, StandsOutside, WritesBelow, WritesByAnswer, WritesStack, WritesText};
 ghost use Rattle.x86_meaning.specs.MemoryLaws.{CanApart, CanByKinds, CanInSame, ForgetAbove, ForgetBelow, ForgetKeepsKinds, ForgetKeepsSame, ForgetOffStack, ForgetThenForget, KnownApart, KnownInSame, PutAllAbove, PutAllBelow, PutAllIsKnown, PutAllKeepsKinds, PutAllKeepsSame, PutAllThere, PutAllWithin, PutElsewhere, PutKeepsSame, PutThere, SameInApart, StackKeepsSame};
 ghost use Rattle.x86_meaning.specs.StateLaws.{CallApart, StartIsForgotten, StepForgets, StepKeepsKinds};
-ghost use Rattle.x86_meaning.specs.Laws.{CodeIsAnyFront, FifteenAreEnough, FrontIsSpelling, IsOnlySpelling, IsWholeSpelling, NoSpellingBeginsAnother, NoneIsNoSpelling, RunsArePaced, RunsGrow, RunsHaveNoGuard, RunsNeverStop, RunsTick, SpellingIsShort};
+ghost use Rattle.x86_meaning.specs.Laws.{CodeIsAnyFront, FifteenAreEnough, FrontIsSpelling, IsOnlySpelling, IsWholeSpelling, NoSpellingBeginsAnother, NoneIsNoSpelling, RunsArePaced, RunsGrow, RunsHaveNoGuard, RunsNeverStop, RunsTick, SpellingIsFound, SpellingIsShort};
 
 use x86_grammar::no_spelling_begins_another;
 
-/// Does nothing: its clauses say that the computed front is the relation of spellings, and that a list of bytes has at
-/// most one front that spells an instruction, which it spells by the whole grammar too, and no other
-/// front another.
+/// Does nothing: its clauses say that the computed front is the relation of spellings, that a spelling is found whatever
+/// stands after it, and that a list of bytes has at most one front that spells an instruction, which it spells by the
+/// whole grammar too, and no other front another.
 pub fn spelling_laws()
     ensures front_is_spelling { FrontIsSpelling }
+    ensures spelling_is_found { SpellingIsFound }
     ensures none_is_no_spelling { NoneIsNoSpelling }
     ensures is_whole_spelling { IsWholeSpelling }
     ensures is_only_spelling { IsOnlySpelling }
