@@ -6,15 +6,11 @@ use Rattle.traces.specs.Agree.{Covers, Follows, Agrees, outside}
 use Rattle.traces.specs.Plain.{AgreePlainly}
 use Rattle.traces.specs.Simulation.{Matched, Simulates, Fits, SameEvents}
 use Rattle.traces.specs.Machines.{marked, turned}
-use Rattle.traces.proofs.Steps.{run_stand, run_halt, rest_halt, goes_step, goes_then}
-use Rattle.traces.proofs.Lists.{events-append}
 use Rattle.traces.proofs.Simulate.{simulation_follows}
-use Rattle.traces.proofs.Runs.{agree}
-use Rattle.traces.proofs.Plain.{agree_plainly}
-use Rattle.traces.proofs.Compose.{agrees_within}
 use Rattle.x86_meaning.specs.Step.{State, Code, next}
 use Rattle.x86_meaning.specs.Run.{run_from}
-use Rattle.x86_meaning.proofs.Moves.{grows, never_stops}
+use Rattle.rewrite_core.proofs.LawsBelow.{RunLaws}
+use Rattle.rewrite_core.proofs.RunSteps.{run_stand, run_halt, rest_halt, goes_step, goes_then, events-append}
 
 -- two moves with the same labels: to states that are related, or to one end, which no guard event is
 pub data Alike {S : Type 0} (R : S → S → Type 0) : Move S → Move S → Type 0 where
@@ -81,9 +77,9 @@ follows_agrees a b C R h n =
     (x.0, record { bound = omega arith; does = x.1.does })
 
 -- two codes whose steps are alike from related states, the second taking one more where it wants to, agree
-pub agree_by_steps : (old new : Code) (R : State → State → Type 0) → ((s t : State) → R s t → Alike (Soon (next new) R) (next old s) (next new t)) → (s t : State) → R s t → (a b : ℕ) → 2 ≤ a → 0 ≤ b → AgreePlainly a b (run_from old s) (run_from new t)
-agree_by_steps old new R step s t r a b p q =
+pub agree_by_steps : RunLaws → (old new : Code) (R : State → State → Type 0) → ((s t : State) → R s t → Alike (Soon (next new) R) (next old s) (next new t)) → (s t : State) → R s t → (a b : ℕ) → 2 ≤ a → 0 ≤ b → AgreePlainly a b (run_from old s) (run_from new t)
+agree_by_steps laws old new R step s t r a b p q =
     let follows : Covers (Follows 2 0) (run_from old s) (run_from new t) = unfold run_from in lockstep (λ u. u.cpu.eip) (next old) (next new) R step s t r in
     let C : Behaviour = run_from old s in
     let D : Behaviour = run_from new t in
-    agree_plainly a b C D (never_stops old s) (agree a b C D (grows new t) (agrees_within 2 0 a b C D p q (follows_agrees 2 0 C D follows)))
+    laws.says_plainly a b C D (laws.runs_never_stop old s) (laws.one_direction a b C D (laws.runs_grow new t) (laws.agrees_within 2 0 a b C D p q (follows_agrees 2 0 C D follows)))
