@@ -1,6 +1,6 @@
 -- A jump to itself never ends, nor does what is written for it.
-use Rattle.std.proofs.Common.{◌≡◌, ℕ, zero, suc, ◌<◌, ◌^◌, List, [], ◌∷◌, Some, None, refl, ap, ◌∙◌, arith}
-use Rattle.traces.specs.Trace.{Label, Turn, Move, Go, at_rest, run, seen}
+use Rattle.std.proofs.Common.{◌≡◌, ℕ, zero, suc, ◌<◌, ◌^◌, List, [], ◌∷◌, Some, refl, ap, ◌∙◌, arith}
+use Rattle.traces.specs.Trace.{Turn, Move, Go}
 use Rattle.traces.specs.Machines.{turned, marked}
 use Rattle.traces.specs.Plain.{NeverEnds}
 use Rattle.elf_image.specs.Plain.{plain_image}

@@ -1,8 +1,8 @@
 // The rewriting of a file.
 ghost use Rattle.rewrite_core.specs.Rewrites.{Rewrites};
 
-use crate::lay::lay;
 use crate::laws::agreement_laws;
+use crate::lay::lay;
 use crate::layout::write_file;
 use elf_image::{ImageError, Refusal, Room, image_laws, is_plain, read_image};
 use std::alloc::{AllocError, Global};
