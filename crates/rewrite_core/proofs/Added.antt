@@ -9,8 +9,8 @@ use Rattle.traces.specs.Trace.{Label, End}
 use Rattle.traces.specs.Agree.{outside}
 use Rattle.x86_meaning.specs.Memory.{Place, Memory, can, can_all, known_all, put_all, forget_below, stack_start, with_stack, kind_of, SameOutside, IsApart}
 use Rattle.x86_meaning.specs.SystemCall.{Request, Environment, Called, Ends, Gives, Plan, Refused, Stops, Asks, cap, error, EBADF, EFAULT, next_answer, passes, read_plan, asks_known, write_plan, read_by, write_by, reads, writes, read_call, write_call, exit_call, transfer, call_by, system_call}
-use Rattle.x86_meaning.proofs.Memories.{put_all_keeps_kinds, forget_keeps_kinds, can_apart, known_apart, put_all_keeps_same, forget_keeps_same, stack_keeps_same}
 use Rattle.rewrite_core.specs.Agreement.{IsAdded}
+use Rattle.rewrite_core.proofs.LawsBelow.{MemoryLaws}
 
 -- ---- memory
 none_of_kind : (o p : Option Place) → kind_of o ≡ kind_of p → p ≡ None → o ≡ None
@@ -25,21 +25,21 @@ added_by low high m n m' n' h k same = record {
   same = same;
 }
 
-pub added_put_all : (low high : ℕ) (m n : Memory) (at : ℕ) (bs : List ℕ) → IsAdded low high m n → IsAdded low high (put_all at bs m) (put_all at bs n)
-added_put_all low high m n at bs h = added_by low high m n (put_all at bs m) (put_all at bs n) h (put_all_keeps_kinds at bs m) (put_all_keeps_same low high m n at bs h.same)
+pub added_put_all : MemoryLaws → (low high : ℕ) (m n : Memory) (at : ℕ) (bs : List ℕ) → IsAdded low high m n → IsAdded low high (put_all at bs m) (put_all at bs n)
+added_put_all laws low high m n at bs h = added_by low high m n (put_all at bs m) (put_all at bs n) h (laws.put_all_keeps_kinds at bs m) (laws.put_all_keeps_same low high m n at bs h.same)
 
-pub added_forget : (low high : ℕ) (m n : Memory) (esp : ℕ) → IsAdded low high m n → IsAdded low high (forget_below esp m) (forget_below esp n)
-added_forget low high m n esp h = added_by low high m n (forget_below esp m) (forget_below esp n) h (forget_keeps_kinds esp m) (forget_keeps_same low high m n esp h.same)
+pub added_forget : MemoryLaws → (low high : ℕ) (m n : Memory) (esp : ℕ) → IsAdded low high m n → IsAdded low high (forget_below esp m) (forget_below esp n)
+added_forget laws low high m n esp h = added_by low high m n (forget_below esp m) (forget_below esp n) h (laws.forget_keeps_kinds esp m) (laws.forget_keeps_same low high m n esp h.same)
 
 stack_above : (esp0 : ℕ) (bytes : List ℕ) (m : Memory) (a : ℕ) → a < stack_start esp0 → with_stack esp0 bytes m a ≡ m a
 unfolding with_stack
 stack_above esp0 bytes m a h = elim (leb_tells (stack_start esp0) a) [ inl k ↦ absurd (omega (arith, k.1, h)) | inr k ↦ rw k.0 refl ]
 
-pub added_stack : (low high : ℕ) (m n : Memory) (esp0 : ℕ) (bytes : List ℕ) → low ≤ stack_start esp0 → high ≤ stack_start esp0 → IsAdded low high m n → IsAdded low high (with_stack esp0 bytes m) (with_stack esp0 bytes n)
-added_stack low high m n esp0 bytes p q h = record {
+pub added_stack : MemoryLaws → (low high : ℕ) (m n : Memory) (esp0 : ℕ) (bytes : List ℕ) → low ≤ stack_start esp0 → high ≤ stack_start esp0 → IsAdded low high m n → IsAdded low high (with_stack esp0 bytes m) (with_stack esp0 bytes n)
+added_stack laws low high m n esp0 bytes p q h = record {
   free = λ a k l. stack_above esp0 bytes m a (omega arith) ∙ h.free a k l;
   edge = λ a k. stack_above esp0 bytes m a (omega arith) ∙ h.edge a k;
-  same = stack_keeps_same low high m n esp0 bytes h.same;
+  same = laws.stack_keeps_same low high m n esp0 bytes h.same;
 }
 
 -- ---- buffers
@@ -69,7 +69,7 @@ Away low high a = (a < low) ⊎ (high ≤ a)
 short_or_long : (at count low : ℕ) → (at + count ≤ low) ⊎ (low < at + count)
 short_or_long at count low = grind arith
 
-module _ (low high : ℕ) (m n : Memory) (h : IsAdded low high m n) where
+module _ (laws : MemoryLaws) (low high : ℕ) (m n : Memory) (h : IsAdded low high m n) where
   -- a buffer that begins below the range and reaches into it meets the place just below
   at_edge : (write : Bool) (at count : ℕ) → at < low → low < at + count → (can_all write m at count ≡ false) × (can_all write n at count ≡ false)
   at_edge write at count p q =
@@ -80,9 +80,9 @@ module _ (low high : ℕ) (m n : Memory) (h : IsAdded low high m n) where
       (can_none write m count at k (omega arith) old, can_none write n count at k (omega arith) new)
 
   pub added_can : (write : Bool) (at count : ℕ) → Away low high at → can_all write m at count ≡ can_all write n at count
-  added_can write at count (inr p) = can_apart low high m n write at count h.same (inr p)
+  added_can write at count (inr p) = laws.can_apart low high m n write at count h.same (inr p)
   added_can write at count (inl p) = ⊎_elim
-      (λ (q : at + count ≤ low). can_apart low high m n write at count h.same (inl q))
+      (λ (q : at + count ≤ low). laws.can_apart low high m n write at count h.same (inl q))
       (λ (q : low < at + count). let both = at_edge write at count p q in both.0 ∙ sym both.1)
       (short_or_long at count low)
 
@@ -109,7 +109,7 @@ module _ (low high : ℕ) (m n : Memory) (h : IsAdded low high m n) where
   known_where_passes : (at count k : ℕ) → k ≤ count → Away low high at → passes false n at count ≡ true → known_all m at k ≡ known_all n at k
   known_where_passes at count k fits p e =
       let can = added_can false at count p ∙ (and_parts (leb (at + count) 4294967296) (can_all false n at count) e).1 in
-      known_apart low high m n at k h.same (less (apart_where_can false at count p can))
+      laws.known_apart low high m n at k h.same (less (apart_where_can false at count p can))
     where
       less : IsApart low high at count → IsApart low high at k
       less (inl q) = inl (omega arith)
@@ -136,9 +136,9 @@ exit_alike : (low high : ℕ) (o : Option ℕ) → CallsAlike low high (exit_cal
 exit_alike low high None = ends _ refl
 exit_alike low high (Some status) = ends _ refl
 
-module _ (low high : ℕ) (m n : Memory) (h : IsAdded low high m n) where
+module _ (laws : MemoryLaws) (low high : ℕ) (m n : Memory) (h : IsAdded low high m n) where
   read_by_alike : (x : Answer) (fd at k : ℕ) (left : Environment) → CallsAlike low high (read_by x fd at k m left) (read_by x fd at k n left)
-  read_by_alike (Take j) fd at k left = gives _ _ _ _ _ (added_put_all low high m n at _ h)
+  read_by_alike (Take j) fd at k left = gives _ _ _ _ _ (added_put_all laws low high m n at _ h)
   read_by_alike (Fail e) fd at k left = gives _ _ m n _ h
 
   write_by_alike : (x : Answer) (fd : ℕ) (bytes : List ℕ) (left : Environment) → CallsAlike low high (write_by x fd bytes m left) (write_by x fd bytes n left)
@@ -158,12 +158,12 @@ module _ (low high : ℕ) (m n : Memory) (h : IsAdded low high m n) where
   read_alike : (fd at count : ℕ) (left : Environment) → Away low high at → CallsAlike low high (read_call fd at count m left) (read_call fd at count n left)
   unfolding read_call
   read_alike fd at count left p =
-      subst (λ (x : Plan ℕ). CallsAlike low high (reads (read_plan m fd at count) fd at m left) (reads x fd at n left)) (same_read_plan low high m n h fd at count p) (reads_alike (read_plan m fd at count) fd at left)
+      subst (λ (x : Plan ℕ). CallsAlike low high (reads (read_plan m fd at count) fd at m left) (reads x fd at n left)) (same_read_plan laws low high m n h fd at count p) (reads_alike (read_plan m fd at count) fd at left)
 
   write_alike : (fd at count : ℕ) (left : Environment) → Away low high at → CallsAlike low high (write_call fd at count m left) (write_call fd at count n left)
   unfolding write_call
   write_alike fd at count left p =
-      subst (λ (x : Plan (List ℕ)). CallsAlike low high (writes (write_plan m fd at count) fd m left) (writes x fd n left)) (same_write_plan low high m n h fd at count p) (writes_alike (write_plan m fd at count) fd left)
+      subst (λ (x : Plan (List ℕ)). CallsAlike low high (writes (write_plan m fd at count) fd m left) (writes x fd n left)) (same_write_plan laws low high m n h fd at count p) (writes_alike (write_plan m fd at count) fd left)
 
   transfer_alike : (call : ℕ → ℕ → ℕ → Memory → Environment → Called) (left : Environment)
       → ((fd at count : ℕ) → Away low high at → CallsAlike low high (call fd at count m left) (call fd at count n left))

@@ -14,6 +14,7 @@ use Rattle.rewrite_core.specs.Met.{IsApart, IsRewritable}
 use Rattle.rewrite_core.specs.Places.{page_start, IsLaid}
 use Rattle.rewrite_core.specs.Layout.{code_start, whole_pages, kept_segment, code_segment, new_image, text_of}
 use Rattle.rewrite_core.specs.Agreement.{IsAdded, NewFileAgrees, NewCodeAgrees}
+use Rattle.rewrite_core.proofs.LawsBelow.{MemoryLaws, LawsBelow}
 use Rattle.rewrite_core.proofs.PlainPage.{plain_page}
 use Rattle.rewrite_core.proofs.Lockstep.{agree_by_steps}
 use Rattle.rewrite_core.proofs.Added.{Away, added_stack}
@@ -38,28 +39,28 @@ stack_is_high esp0 stack s = let h = s.high in omega arith
 code_end : (page code : List ℕ) → IsLaid page code → code_start + whole_pages (length code) ≤ 0x7C000000
 code_end page code laid = let few = laid.few in omega arith
 
-starts_beside : (page code : List ℕ) (laid : IsLaid page code) (high : ℕ) → ((k : ℕ) → IsApart k → Away code_start high k) → (m n : Memory) → IsAdded code_start high m n → (esp0 : ℕ) (stack : List ℕ) (left : Environment) → high ≤ stack_start esp0 → code_start ≤ stack_start esp0
+starts_beside : MemoryLaws → (page code : List ℕ) (laid : IsLaid page code) (high : ℕ) → ((k : ℕ) → IsApart k → Away code_start high k) → (m n : Memory) → IsAdded code_start high m n → (esp0 : ℕ) (stack : List ℕ) (left : Environment) → high ≤ stack_start esp0 → code_start ≤ stack_start esp0
     → Beside code_start high (IsNew page code laid) (start_over m page_start esp0 stack left) (start_over n code_start esp0 stack left)
 unfolding start_over
-starts_beside page code laid high apart m n added esp0 stack left h k = record {
+starts_beside laws page code laid high apart m n added esp0 stack left h k = record {
   same = refl;
   places = record { new = 0; at = laid.first; is = refl };
-  memory = added_stack code_start high m n esp0 stack k h added;
+  memory = added_stack laws code_start high m n esp0 stack k h added;
   buffer = constant_away code_start high 0 (omega arith) (apart 0 (inl (omega arith)));
 }
 
 -- ---- over any data
-pub new_code_agrees : NewCodeAgrees
-new_code_agrees file code bytes r laid m n added esp0 stack left start environment =
+pub new_code_agrees : LawsBelow → NewCodeAgrees
+new_code_agrees laws file code bytes r laid m n added esp0 stack left start environment =
     let text : List ℕ = text_of file in
     let high : ℕ = code_start + whole_pages (length code) in
     let below : high ≤ 0x7C000000 = code_end text code laid in
     let above : 0x7C000000 ≤ stack_start esp0 = stack_is_high esp0 stack start in
     let text_bytes : All (λ b. b < 256) text = All-take (λ b. b < 256) 4096 (drop 4096 file) (All-drop (λ b. b < 256) 4096 file bytes) in
     let apart : (k : ℕ) → IsApart k → Away code_start high k = λ k. apart_is_away high k below in
-    let first = starts_beside text code laid high apart m n added esp0 stack left (omega arith) (omega arith) in
-    agree_by_steps (code_of (plain_image file)) (code_of (new_image text code)) (Beside code_start high (IsNew text code laid))
-    (one_step code_start high apart (plain_image file) text code (plain_page file (plain_whole file r)) text_bytes laid) _ _ first 4096 256 (omega arith) (omega arith)
+    let first = starts_beside laws.memory text code laid high apart m n added esp0 stack left (omega arith) (omega arith) in
+    agree_by_steps laws.run (code_of (plain_image file)) (code_of (new_image text code)) (Beside code_start high (IsNew text code laid))
+    (one_step laws code_start high apart (plain_image file) text code (plain_page file (plain_whole file r)) text_bytes laid) _ _ first 4096 256 (omega arith) (omega arith)
 
 -- ---- over those of the images
 not_held : (a : ℕ) (s : Segment) → (a < s.start) ⊎ (s.start + s.size ≤ a) → holds a s ≡ false
@@ -93,6 +94,6 @@ images_added file code = record {
 }
 
 -- the images' own memories are such data
-pub new_file_agrees : NewFileAgrees
-new_file_agrees file code bytes r laid esp0 stack left start environment =
-    new_code_agrees file code bytes r laid (memory_of (plain_image file)) (memory_of (new_image (text_of file) code)) (images_added file code) esp0 stack left start environment
+pub new_file_agrees : LawsBelow → NewFileAgrees
+new_file_agrees laws file code bytes r laid esp0 stack left start environment =
+    new_code_agrees laws file code bytes r laid (memory_of (plain_image file)) (memory_of (new_image (text_of file) code)) (images_added file code) esp0 stack left start environment

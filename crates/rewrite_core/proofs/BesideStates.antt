@@ -17,8 +17,8 @@ use Rattle.x86_meaning.specs.Memory.{Place, Memory, forgotten, forget_below}
 use Rattle.x86_meaning.specs.SystemCall.{Called}
 use Rattle.x86_meaning.specs.Step.{State, Code, zero_word, reg_at, with_reg, with_eip, with_cpu, settled_by, settled, request_of, after_call, step, step_at, next}
 use Rattle.x86_meaning.specs.StateLaws.{IsForgotten}
-use Rattle.x86_meaning.proofs.Memories.{forget_at_below, forget_at_above}
 use Rattle.rewrite_core.specs.Agreement.{IsAdded}
+use Rattle.rewrite_core.proofs.LawsBelow.{MemoryLaws}
 use Rattle.rewrite_core.proofs.Lockstep.{Alike, stands, goes, halts}
 use Rattle.rewrite_core.proofs.Added.{Away, CallsAlike, ends, gives, added_forget, system_alike}
 
@@ -61,7 +61,7 @@ constant_away low high n below h a e =
     let same : n ≡ a = let f : Some n ≡ Some a = sym (known_word n below) ∙ e in cc in
     subst (Away low high) same h
 
-module _ (low high : ℕ) (Places : ℕ → ℕ → Type 0) where
+module _ (laws : MemoryLaws) (low high : ℕ) (Places : ℕ → ℕ → Type 0) where
   abbrev Pair : State → State → Type 0
   Pair s t = Beside low high Places s t
 
@@ -72,7 +72,7 @@ module _ (low high : ℕ) (Places : ℕ → ℕ → Type 0) where
     where
       cases : (o : Option ℕ) → Alike Pair (settled_by o ls s) (settled_by o ls (beside a m s))
       cases None = halts ls Unspecified refl
-      cases (Some esp) = goes ls _ _ (record { same = refl; places = places; memory = added_forget low high s.memory m esp memory; buffer = buffer })
+      cases (Some esp) = goes ls _ _ (record { same = refl; places = places; memory = added_forget laws low high s.memory m esp memory; buffer = buffer })
 
   -- MOV of a constant that is no address in the range
   mov_beside : (to : Reg) (from len : ℕ) (s : State) (a : ℕ) (m : Memory) → Places ((s.cpu.eip + len) % 4294967296) ((a + len) % 4294967296) → IsAdded low high s.memory m → IsAway low high (reg_at s.cpu 1) → IsAway low high (word_of from)
@@ -100,7 +100,7 @@ module _ (low high : ℕ) (Places : ℕ → ℕ → Type 0) where
       → Alike Pair (step Int80 len s) (step Int80 len (beside a m s))
   unfolding step
   call_beside len s a m places memory buffer =
-      after_alike _ _ (with_eip (s.cpu.eip + len) s.cpu) ((a + len) % 4294967296) (system_alike low high s.memory m memory (request_of s.cpu) s.left buffer) places buffer
+      after_alike _ _ (with_eip (s.cpu.eip + len) s.cpu) ((a + len) % 4294967296) (system_alike laws low high s.memory m memory (request_of s.cpu) s.left buffer) places buffer
 
   -- what stands at the two places: the same instruction, or none, or two jumps
   abbrev StepsAlike : Option (Instr × ℕ) → Option (Instr × ℕ) → State → State → Type 0
@@ -140,10 +140,10 @@ forgotten_place esp a (Some p) h k = by_stack p.on_stack refl
     by_stack false e = rw e refl
 
 -- what is forgotten stays so
-forgotten_stays : (t : State) (f : IsForgotten t) (a : ℕ) → forget_below f.esp t.memory a ≡ t.memory a
-forgotten_stays t f a = elim (leb_tells f.esp a) [
-  | inl above ↦ forget_at_above f.esp t.memory a above.1
-  | inr below ↦ forget_at_below f.esp t.memory a below.1 ∙ forgotten_place f.esp a (t.memory a) (λ p l e k. f.below a p l e k) below.1
+forgotten_stays : MemoryLaws → (t : State) (f : IsForgotten t) (a : ℕ) → forget_below f.esp t.memory a ≡ t.memory a
+forgotten_stays laws t f a = elim (leb_tells f.esp a) [
+  | inl above ↦ laws.forget_above f.esp t.memory a above.1
+  | inr below ↦ laws.forget_below f.esp t.memory a below.1 ∙ forgotten_place f.esp a (t.memory a) (λ p l e k. f.below a p l e k) below.1
 ]
 
 abbrev pub jumped : (t : State) → IsForgotten t → ℕ → State
@@ -156,16 +156,16 @@ jump_goes new t f by len e =
     ap (λ (o : Option (Instr × ℕ)). step_at o t) e ∙ ap (λ (o : Option ℕ). settled_by o [] at) f.is_esp
 
 -- after it the second is beside the first still
-pub beside_jumped : (low high : ℕ) (P Q : ℕ → ℕ → Type 0) (s t : State) (f : IsForgotten t) (a : ℕ) → Beside low high P s t → Q s.cpu.eip (a % 4294967296) → Beside low high Q s (jumped t f a)
-beside_jumped low high P Q s t f a p places = record {
+pub beside_jumped : MemoryLaws → (low high : ℕ) (P Q : ℕ → ℕ → Type 0) (s t : State) (f : IsForgotten t) (a : ℕ) → Beside low high P s t → Q s.cpu.eip (a % 4294967296) → Beside low high Q s (jumped t f a)
+beside_jumped laws low high P Q s t f a p places = record {
   same = ap (beside (a % 4294967296) (forget_below f.esp t.memory)) p.same;
   places = places;
   memory = record {
     free = p.memory.free;
     edge = p.memory.edge;
     same = record {
-      below = λ k h. p.memory.same.below k h ∙ sym (forgotten_stays t f k);
-      above = λ k h. p.memory.same.above k h ∙ sym (forgotten_stays t f k);
+      below = λ k h. p.memory.same.below k h ∙ sym (forgotten_stays laws t f k);
+      above = λ k h. p.memory.same.above k h ∙ sym (forgotten_stays laws t f k);
     };
   };
   buffer = p.buffer;

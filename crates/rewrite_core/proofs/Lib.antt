@@ -7,6 +7,7 @@ pub mod Followings
 pub mod Fronts
 pub mod JudgedPlaces
 pub mod LaidCode
+pub mod LawsBelow
 pub mod LayoutLemmas
 pub mod Lockstep
 pub mod Loops
@@ -19,3 +20,4 @@ pub mod PartCodes
 pub mod PlacedParts
 pub mod PlacingSteps
 pub mod PlainPage
+pub mod RunSteps

@@ -6,10 +6,10 @@ use Rattle.x86_types.specs.declared.instr.Instr.{Instr}
 use Rattle.x86_types.specs.declared.instr.Instr.TheVariants.{Jmp, Int80}
 use Rattle.x86_meaning.specs.Spells.{mov_word, front, word_bytes}
 use Rattle.x86_meaning.specs.Run.{code_of}
-use Rattle.x86_meaning.proofs.Spellings.{found, spelled_front}
 use Rattle.rewrite_core.specs.declared.places.Judgement.{Judgement}
 use Rattle.rewrite_core.specs.Places.{stop, judged_at, IsJump, JumpsTo, StandsFor, IsLaid}
 use Rattle.rewrite_core.specs.Layout.{code_start, whole_pages, in_pages, new_image}
+use Rattle.rewrite_core.proofs.LawsBelow.{SpellingLaws}
 use Rattle.rewrite_core.proofs.Fronts.{front_take, within_of, Stood, by_none, by_mov, by_call, by_jump, by_first, by_constant, stood_as}
 use Rattle.rewrite_core.proofs.CodeLemmas.{left_in_pages, new_code_in_pages}
 use Rattle.rewrite_core.proofs.MetPlaces.{stands_for}
@@ -54,23 +54,23 @@ module _ (page code : List ℕ) where
   new_stop q e = begins_there q 2 stop e (omega arith) ∙ stop_front (drop 2 (drop q code) ++ zeros_after)
 
   -- a jump
-  pub new_jump : (q to : ℕ) → IsJump code q to → code_of (new_image page code) (code_start + q) ≡ Some (Jmp (jump_by q to), 5)
+  pub new_jump : SpellingLaws → (q to : ℕ) → IsJump code q to → code_of (new_image page code) (code_start + q) ≡ Some (Jmp (jump_by q to), 5)
   unfolding jump_by
-  new_jump q to e =
+  new_jump laws q to e =
       let own : List ℕ = 0xE9 ∷ word_bytes (jump_by q to) in
-      begins_there q 5 own e (omega arith) ∙ found own (drop 5 (drop q code) ++ zeros_after) (Jmp (jump_by q to)) (omega arith, inl refl)
+      begins_there q 5 own e (omega arith) ∙ laws.spelling_is_found own (drop 5 (drop q code) ++ zeros_after) (Jmp (jump_by q to)) (omega arith, inl refl)
 
   -- the bytes of an instruction
   own_length : (bs : List ℕ) (i : Instr) (len : ℕ) → front bs ≡ Some (i, len) → (length (take len bs) ≡ len) × (1 ≤ len)
   own_length bs i len e = let w = within_of bs i len e in (length-take-le len bs w.1, w.0)
 
-  pub new_same : (p q : ℕ) (i : Instr) (len : ℕ) → All (λ b. b < 256) page → front (drop p page) ≡ Some (i, len) → take len (drop q code) ≡ take len (drop p page) → code_of (new_image page code) (code_start + q) ≡ Some (i, len)
-  new_same p q i len bytes e same =
+  pub new_same : SpellingLaws → (p q : ℕ) (i : Instr) (len : ℕ) → All (λ b. b < 256) page → front (drop p page) ≡ Some (i, len) → take len (drop q code) ≡ take len (drop p page) → code_of (new_image page code) (code_start + q) ≡ Some (i, len)
+  new_same laws p q i len bytes e same =
       let own : List ℕ = take len (drop p page) in
       let size = own_length (drop p page) i len e in
-      let spelled = spelled_front (drop p page) i len (All-drop (λ b. b < 256) p page bytes) e in
+      let spelled = (laws.front_is_spelling (drop p page) (All-drop (λ b. b < 256) p page bytes) i len).0 e in
       begins_there q len own same (omega (arith, size.0, size.1))
-      ∙ found own (drop len (drop q code) ++ zeros_after) i spelled.spells
+      ∙ laws.spelling_is_found own (drop len (drop q code) ++ zeros_after) i spelled.spells
       ∙ ap (λ (k : ℕ). Some (i, k)) size.0
 
   -- ---- where they stand

@@ -10,13 +10,12 @@ use Rattle.x86_meaning.specs.Spells.{mov_word, front}
 use Rattle.x86_meaning.specs.Step.{State, Code, next}
 use Rattle.x86_meaning.specs.Run.{code_of}
 use Rattle.x86_meaning.specs.StateLaws.{IsForgotten}
-use Rattle.x86_meaning.proofs.Spellings.{spelled_front}
-use Rattle.x86_meaning.proofs.States.{step_forgets}
 use Rattle.rewrite_core.specs.declared.places.Judgement.{Judgement}
 use Rattle.rewrite_core.specs.declared.places.Judgement.TheVariants.{GoesOn}
 use Rattle.rewrite_core.specs.Met.{IsApart}
 use Rattle.rewrite_core.specs.Places.{is_apart, place_of, target_of, stop, judged_at, JumpsTo, Continues, StandsFor, IsLaid}
 use Rattle.rewrite_core.specs.Layout.{code_start, new_image}
+use Rattle.rewrite_core.proofs.LawsBelow.{LawsBelow}
 use Rattle.rewrite_core.proofs.Fronts.{Stood, by_none, by_mov, by_call, by_jump, by_first, by_constant, stood_as}
 use Rattle.rewrite_core.proofs.PageAddresses.{address_after, place_jumped}
 use Rattle.rewrite_core.proofs.PlainPage.{HasPage}
@@ -42,7 +41,7 @@ module _ (page code : List ℕ) (laid : IsLaid page code) where
   new_before : (a a' : ℕ) → IsNew a a' → IsBefore a a'
   new_before a a' p = record { new = p.new; on = inl p.at; is = p.is }
 
-module _ (low high : ℕ) (apart : (k : ℕ) → IsApart k → Away low high k) (image : Image) (page code : List ℕ) (has : HasPage image page) (bytes : All (λ b. b < 256) page) (laid : IsLaid page code) where
+module _ (laws : LawsBelow) (low high : ℕ) (apart : (k : ℕ) → IsApart k → Away low high k) (image : Image) (page code : List ℕ) (has : HasPage image page) (bytes : All (λ b. b < 256) page) (laid : IsLaid page code) where
   abbrev old : Code
   old = code_of image
 
@@ -92,32 +91,32 @@ module _ (low high : ℕ) (apart : (k : ℕ) → IsApart k → Away low high k) 
 
     step_none : front (drop place page) ≡ None → take 2 (drop here code) ≡ stop → Alike Nearly (next old s) (next new t)
     step_none e st =
-        next_alike low high (IsBefore page code laid) old new s t None None (old_at None e) (new_at None (new_stop page code here st)) (none_alike low high (IsBefore page code laid) s t)
+        next_alike laws.memory low high (IsBefore page code laid) old new s t None None (old_at None e) (new_at None (new_stop page code here st)) (none_alike laws.memory low high (IsBefore page code laid) s t)
 
     step_mov : (to : Reg) (from len : ℕ) → front (drop place page) ≡ Some (mov_word to from, len) → is_apart from ≡ true → StandsFor page code laid.table place here (GoesOn len) → Alike Nearly (next old s) (next new t)
     step_mov to from len e k st =
         let i : Option (Instr × ℕ) = Some (mov_word to from, len) in
-        let spelled = spelled_front (drop place page) (mov_word to from) len (All-drop (λ b. b < 256) place page bytes) e in
+        let spelled = (laws.spelling.front_is_spelling (drop place page) (All-drop (λ b. b < 256) place page bytes) (mov_word to from) len).0 e in
         let constant : IsAway low high (word_of from) = constant_away low high from spelled.spells.0 (apart from (apart-true from k)) in
         let on = after_same s.cpu.eip t.cpu.eip here (mov_word to from) len p.places.is e st.0 st.1 in
-        next_alike low high (IsBefore page code laid) old new s t i i (old_at i e) (new_at i (new_same page code place here (mov_word to from) len bytes e st.0))
-        (mov_alike low high (IsBefore page code laid) to from len s t nearly on constant)
+        next_alike laws.memory low high (IsBefore page code laid) old new s t i i (old_at i e) (new_at i (new_same page code laws.spelling place here (mov_word to from) len bytes e st.0))
+        (mov_alike laws.memory low high (IsBefore page code laid) to from len s t nearly on constant)
 
     step_call : (len : ℕ) → front (drop place page) ≡ Some (Int80, len) → StandsFor page code laid.table place here (GoesOn len) → Alike Nearly (next old s) (next new t)
     step_call len e st =
         let i : Option (Instr × ℕ) = Some (Int80, len) in
         let on = after_same s.cpu.eip t.cpu.eip here Int80 len p.places.is e st.0 st.1 in
-        next_alike low high (IsBefore page code laid) old new s t i i (old_at i e) (new_at i (new_same page code place here Int80 len bytes e st.0))
-        (call_alike low high (IsBefore page code laid) len s t nearly on)
+        next_alike laws.memory low high (IsBefore page code laid) old new s t i i (old_at i e) (new_at i (new_same page code laws.spelling place here Int80 len bytes e st.0))
+        (call_alike laws.memory low high (IsBefore page code laid) len s t nearly on)
 
     step_jump : (by len : ℕ) → front (drop place page) ≡ Some (Jmp by, len) → JumpsTo code laid.table here (target_of (place + len) by) → Alike Nearly (next old s) (next new t)
     step_jump by len e j =
-        let stands = new_jump page code here j.to j.jump in
+        let stands = new_jump page code laws.spelling here j.to j.jump in
         let from = jump_within page code here j.to j.jump in
         let to = new_within page code laid (target_of (place + len) by) j.to j.at in
         let leads = jump_leads t.cpu.eip here j.to p.places.is (omega (arith, from, laid.few)) (omega (arith, to, laid.few)) in
-        next_alike low high (IsBefore page code laid) old new s t (Some (Jmp by, len)) _ (old_at (Some (Jmp by, len)) e) (new_at _ stands)
-        (jump_alike low high (IsBefore page code laid) by len _ 5 s t nearly (after_jump s.cpu.eip t.cpu.eip here by len p.places.is e j _ leads))
+        next_alike laws.memory low high (IsBefore page code laid) old new s t (Some (Jmp by, len)) _ (old_at (Some (Jmp by, len)) e) (new_at _ stands)
+        (jump_alike laws.memory low high (IsBefore page code laid) by len _ 5 s t nearly (after_jump s.cpu.eip t.cpu.eip here by len p.places.is e j _ leads))
 
     step_by : (j : Judgement) → Stood place (drop place page) j → StandsFor page code laid.table place here j → Alike Nearly (next old s) (next new t)
     step_by _ (by_none e) st = step_none e st
@@ -138,15 +137,15 @@ module _ (low high : ℕ) (apart : (k : ℕ) → IsApart k → Away low high k) 
       on : Continues code laid.table p.places.new (place_of s.cpu.eip) → Soon (next new) Pair s t
       on (inl at) = inl (at_places low high (IsBefore page code laid) (IsNew page code laid) s t p (record { new = p.places.new; at = at; is = p.places.is }))
       on (inr j) =
-          let stands = ap new p.places.is ∙ new_jump page code p.places.new j.to j.jump in
+          let stands = ap new p.places.is ∙ new_jump page code laws.spelling p.places.new j.to j.jump in
           let from = jump_within page code p.places.new j.to j.jump in
           let to = new_within page code laid (place_of s.cpu.eip) j.to j.at in
           let leads = jump_leads t.cpu.eip p.places.new j.to p.places.is (omega (arith, from, laid.few)) (omega (arith, to, laid.few)) in
           inr (record {
             state = jumped t f (t.cpu.eip + 5 + _);
             step = jump_goes new t f _ 5 stands;
-            related = beside_jumped low high (IsBefore page code laid) (IsNew page code laid) s t f _ p (record { new = j.to; at = j.at; is = leads });
+            related = beside_jumped laws.memory low high (IsBefore page code laid) (IsNew page code laid) s t f _ p (record { new = j.to; at = j.at; is = leads });
           })
 
   pub one_step : (s t : State) → Pair s t → Alike (Soon (next new) Pair) (next old s) (next new t)
-  one_step s t p = alike_on Nearly (Soon (next new) Pair) (next old s) (next new t) (λ ls u v e r. more u v (step_forgets new t v ls e) r) (nearly_step s t p)
+  one_step s t p = alike_on Nearly (Soon (next new) Pair) (next old s) (next new t) (λ ls u v e r. more u v (laws.step_forgets new t v ls e) r) (nearly_step s t p)

@@ -3,6 +3,7 @@ ghost use Rattle.rewrite_core.specs.Agreement.{LoopsNeverEnd, NewCodeAgrees, New
 ghost use Rattle.rewrite_core.specs.Layout.{NewCodeIsAll, NewCodeIsInPages, NewCodeIsThere, NewFileIsAccepted, RowIsWritten};
 
 use elf_writer::writer_laws;
+use x86_meaning::{memory_laws, run_laws, same_memory_laws, spelling_laws, state_laws};
 
 /// Does nothing: its clauses are the laws of the written file. It is accepted as its image, whose bytes that can be run are
 /// those of the new code, and then zeros up to the end of a page.
@@ -23,4 +24,11 @@ pub fn agreement_laws()
     ensures new_code { NewCodeAgrees }
     ensures new_file { NewFileAgrees }
     ensures loops { LoopsNeverEnd }
-{}
+{
+    traces::agreement_laws();
+    spelling_laws();
+    run_laws();
+    memory_laws();
+    same_memory_laws();
+    state_laws();
+}

@@ -1,6 +1,7 @@
 // The rewriting of a file.
 ghost use Rattle.rewrite_core.specs.Rewrites.{Rewrites};
 
+use crate::laws::agreement_laws;
 use crate::lay::lay;
 use crate::layout::write_file;
 use elf_image::{ImageError, Refusal, Room, image_laws, is_plain, read_image};
@@ -54,6 +55,7 @@ pub fn rewrite(alloc: Global, bytes: &[u8]) -> Result<Rewritten, RewriteError>
         return Err(RewriteError::Refused(Refusal::NotYet));
     };
     let file = write_file(alloc, text, code)?;
+    agreement_laws();
     Ok(Rewritten {
         file: ByteList::new(file),
     })

@@ -1,10 +1,10 @@
 -- The laws of every machine. A law is one for each state type, so these words take the state types.
-use Rattle.std.specs.Prelude.{◌≡◌, ℕ, ◌≤◌, Some}
+use Rattle.std.specs.Prelude.{◌≡◌, ℕ, ◌≤◌, Bool, true, Some}
 use Rattle.traces.specs.Trace.{End, Behaviour, Move, Grows, EndsAt, run}
 use Rattle.traces.specs.Turns.{SameByTurns, CutByTurns, Paced, Ticks, OneEvent, StartsNoLater}
 use Rattle.traces.specs.Agree.{Covers, Follows, Agrees, Agree}
 use Rattle.traces.specs.TurnBounds.{outsides, outsided}
-use Rattle.traces.specs.Machines.{turned, PacedMove, OneEventMove, Unturned}
+use Rattle.traces.specs.Machines.{turned, PacedMove, OneEventMove, Unturned, EndsIn}
 use Rattle.traces.specs.Simulation.{Simulates, Fits, SameEvents, Paired}
 use Rattle.traces.specs.Meeting.{SameFit, CutFit, Meets}
 
@@ -19,6 +19,10 @@ EndComes S = (next : S → Move S) (s : S) (n : ℕ) (e : End) → (run next s n
 -- and it ends once
 abbrev pub EndsOnce : Type 0 → Type 0
 EndsOnce S = (next : S → Move S) (s : S) (n m : ℕ) (e e' : End) → EndsAt (run next s) n e → EndsAt (run next s) m e' → (n ≡ m) × (e ≡ e')
+
+-- where each move that ends does so with an end that passes a test, so does the run
+abbrev pub EndsByMoves : Type 0 → Type 0
+EndsByMoves S = (next : S → Move S) (passes : End → Bool) → ((s : S) → EndsIn (λ e. passes e ≡ true) (next s)) → (s : S) (n : ℕ) (e : End) → (run next s n).end ≡ Some e → passes e ≡ true
 
 -- what agrees with a machine's run in one direction agrees with it
 abbrev pub AgreesWithRun : Type 0 → Type 0

@@ -1,4 +1,4 @@
-ghost use Rattle.traces.specs.MachineLaws.{AgreesWithRun, CutByMeeting, EndComes, EndsOnce, ForwardSimulation, OneEventByMoves, OutsidedRun, PacedByMoves, RunGrows, SameByMeeting, TurnedTicks};
+ghost use Rattle.traces.specs.MachineLaws.{AgreesWithRun, CutByMeeting, EndComes, EndsByMoves, EndsOnce, ForwardSimulation, OneEventByMoves, OutsidedRun, PacedByMoves, RunGrows, SameByMeeting, TurnedTicks};
 
 /// Does nothing: its clauses are the laws of every machine, whatever its states are.
 pub fn machine_laws<S>()
@@ -10,6 +10,18 @@ pub fn machine_laws<S>()
     ensures paced_by_moves { PacedByMoves S }
     ensures one_event_by_moves { OneEventByMoves S }
     ensures outsided_run { OutsidedRun S }
+{}
+
+/// Names a type of definitions, for laws of machines whose states are of that type and of no Rust type.
+pub trait States {
+    ghost Of: { Type 0 };
+}
+
+/// Does nothing: its clauses are laws of every machine whose states are of the named type.
+pub fn machine_laws_of<M: States>()
+    ensures run_grows { RunGrows M.Of }
+    ensures ends_by_moves { EndsByMoves M.Of }
+    ensures turned_ticks { TurnedTicks M.Of }
 {}
 
 /// Does nothing: its clauses are the laws of two machines, by which relating their states relates their runs; `P` is the

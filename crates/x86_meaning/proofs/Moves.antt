@@ -7,8 +7,7 @@ use Rattle.traces.specs.Trace.{Label, End, Guard, Stopped, GuardKind, Move, Stan
 use Rattle.traces.specs.Turns.{Paced, Ticks}
 use Rattle.traces.specs.Plain.{NeverStops}
 use Rattle.traces.specs.Machines.{marked, turned, Unturned, EndsIn}
-use Rattle.traces.proofs.Runs.{run_grows, ends_in}
-use Rattle.traces.proofs.Adapt.{turned_ticks, turned_paced}
+use Rattle.traces.specs.MachineLaws.{RunGrows, EndsByMoves, TurnedTicks}
 use Rattle.x86_types.specs.declared.instr.Instr.{Instr}
 use Rattle.x86_meaning.proofs.Built.{Built, moves, jumps, calls, other, built}
 use Rattle.x86_meaning.specs.declared.state.Cpu.{Cpu}
@@ -17,11 +16,20 @@ use Rattle.x86_meaning.specs.SystemCall.{Request, Environment, Called, Ends, Giv
 use Rattle.x86_meaning.specs.Step.{State, Code, reg_at, settled_by, settled, after_call, step, step_at, next}
 use Rattle.x86_meaning.specs.Run.{run_from}
 
+-- what the lemmas take from the laws of machines
+pub record LawsBelow : Type 0 where
+  pub run_grows : RunGrows State
+  pub ends_by_moves : EndsByMoves State
+  pub turned_ticks : TurnedTicks State
+
 -- neither a stop nor a guard event
+abbrev pub is_own : End → Bool
+is_own (Stopped a) = false
+is_own (Guard k a) = false
+is_own e = true
+
 abbrev pub IsOwn : End → Type 0
-IsOwn (Stopped a) = ⊥
-IsOwn (Guard k a) = ⊥
-IsOwn e = Unit {0}
+IsOwn e = is_own e ≡ true
 
 -- a move of the machine begins no turn, and ends with an end of its own
 pub record IsPlain (m : Move State) : Type 0 where
@@ -38,7 +46,7 @@ unfolding settled
 settled_plain ls s h = cases (known (reg_at s.cpu 4))
   where
     cases : (o : Option ℕ) → IsPlain (settled_by o ls s)
-    cases None = record { unturned = h; own = tt }
+    cases None = record { unturned = h; own = refl }
     cases (Some esp) = record { unturned = h; own = tt }
 
 read_by_plain : (x : Answer) (fd at n : ℕ) (m : Memory) (left : Environment) → IsPlainCall (read_by x fd at n m left)
@@ -51,19 +59,19 @@ write_by_plain (Fail e) fd bytes m left = refl
 
 reads_plain : (p : Plan ℕ) (fd at : ℕ) (m : Memory) (left : Environment) → IsPlainCall (reads p fd at m left)
 reads_plain (Refused r) fd at m left = refl
-reads_plain Stops fd at m left = tt
+reads_plain Stops fd at m left = refl
 reads_plain (Asks n) fd at m left = read_by_plain (next_answer left.answers) fd at n m left
 
 writes_plain : (p : Plan (List ℕ)) (fd : ℕ) (m : Memory) (left : Environment) → IsPlainCall (writes p fd m left)
 writes_plain (Refused r) fd m left = refl
-writes_plain Stops fd m left = tt
+writes_plain Stops fd m left = refl
 writes_plain (Asks bytes) fd m left = write_by_plain (next_answer left.answers) fd bytes m left
 
 transfer_plain : (call : ℕ → ℕ → ℕ → Memory → Environment → Called) → ((fd at n : ℕ) (m : Memory) (left : Environment) → IsPlainCall (call fd at n m left)) → (fd at n : Option ℕ) (m : Memory) (left : Environment) → IsPlainCall (transfer call fd at n m left)
 transfer_plain call h (Some fd) (Some at) (Some n) m left = h fd at n m left
-transfer_plain call h None at n m left = tt
-transfer_plain call h (Some fd) None n m left = tt
-transfer_plain call h (Some fd) (Some at) None m left = tt
+transfer_plain call h None at n m left = refl
+transfer_plain call h (Some fd) None n m left = refl
+transfer_plain call h (Some fd) (Some at) None m left = refl
 
 read_plain : (fd at n : ℕ) (m : Memory) (left : Environment) → IsPlainCall (read_call fd at n m left)
 unfolding read_call
@@ -74,19 +82,19 @@ unfolding write_call
 write_plain fd at n m left = writes_plain (write_plan m fd at n) fd m left
 
 exit_plain : (o : Option ℕ) → IsPlainCall (exit_call o)
-exit_plain None = tt
-exit_plain (Some status) = tt
+exit_plain None = refl
+exit_plain (Some status) = refl
 
 one_of_two : (b : Bool) (x y : Called) → IsPlainCall x → IsPlainCall y → IsPlainCall (cond b x y)
 one_of_two true x y p q = p
 one_of_two false x y p q = q
 
 call_plain : (o : Option ℕ) (q : Request) (m : Memory) (left : Environment) → IsPlainCall (call_by o q m left)
-call_plain None q m left = tt
+call_plain None q m left = refl
 call_plain (Some n) q m left =
     one_of_two (n == 1) _ _ (exit_plain (known_byte q.fd.b0))
     (one_of_two (n == 3) _ _ (transfer_plain read_call read_plain (known q.fd) (known q.at) (known q.count) m left)
-    (one_of_two (n == 4) _ _ (transfer_plain write_call write_plain (known q.fd) (known q.at) (known q.count) m left) tt))
+    (one_of_two (n == 4) _ _ (transfer_plain write_call write_plain (known q.fd) (known q.at) (known q.count) m left) refl))
 
 system_plain : (q : Request) (m : Memory) (left : Environment) → IsPlainCall (system_call q m left)
 unfolding system_call
@@ -101,7 +109,7 @@ unfolding step
 built_plain _ (moves to from) len s = settled_plain [] _ refl
 built_plain _ (jumps by) len s = settled_plain [] _ refl
 built_plain _ calls len s = after_plain _ _ (system_plain _ s.memory s.left)
-built_plain i (other stands none) len s = subst IsPlain (sym (stands len s)) (record { unturned = refl; own = tt })
+built_plain i (other stands none) len s = subst IsPlain (sym (stands len s)) (record { unturned = refl; own = refl })
 
 step_plain : (i : Instr) (len : ℕ) (s : State) → IsPlain (step i len s)
 step_plain i = built_plain i (built i)
@@ -111,7 +119,7 @@ unfolding next
 next_plain code s = cases (code s.cpu.eip)
   where
     cases : (o : Option (Instr × ℕ)) → IsPlain (step_at o s)
-    cases None = record { unturned = refl; own = tt }
+    cases None = record { unturned = refl; own = refl }
     cases (Some p) = step_plain p.0 p.1 s
 
 turned_own : (a : ℕ) (m : Move State) → EndsIn IsOwn m → EndsIn IsOwn (marked a m)
@@ -119,24 +127,30 @@ turned_own a (Stand ls e) h = h
 turned_own a (Go ls s) h = h
 turned_own a (Halt ls e) h = h
 
-run_own : (code : Code) (s : State) (n : ℕ) (e : End) → (run_from code s n).end ≡ Some e → IsOwn e
-unfolding run_from
-run_own code s n e h = ends_in (turned (λ t. t.cpu.eip) (next code)) IsOwn (λ t. turned_own t.cpu.eip (next code t) (next_plain code t).own) n s e h
+module _ (laws : LawsBelow) (code : Code) (s : State) where
+  abbrev machine : State → Move State
+  machine = turned (λ t. t.cpu.eip) (next code)
 
-pub grows : (code : Code) (s : State) → Grows (run_from code s)
-unfolding run_from
-grows code s = run_grows (turned (λ t. t.cpu.eip) (next code)) s
+  run_own : (n : ℕ) (e : End) → (run_from code s n).end ≡ Some e → IsOwn e
+  unfolding run_from
+  run_own = laws.ends_by_moves machine is_own (λ t. turned_own t.cpu.eip (next code t) (next_plain code t).own) s
 
-pub never_stops : (code : Code) (s : State) → NeverStops (run_from code s)
-never_stops code s n a h = run_own code s n (Stopped a) h
+  pub grows : Grows (run_from code s)
+  unfolding run_from
+  grows = laws.run_grows machine s
 
-pub no_guard : (code : Code) (s : State) (n : ℕ) (k : GuardKind) (a : ℕ) → (run_from code s n).end ≢ Some (Guard k a)
-no_guard code s n k a h = run_own code s n (Guard k a) h
+  pub never_stops : NeverStops (run_from code s)
+  never_stops n a h = let own : false ≡ true = run_own n (Stopped a) h in cc
 
-pub ticks : (code : Code) (s : State) → Ticks (run_from code s)
-unfolding run_from
-ticks code s = turned_ticks (λ t. t.cpu.eip) (next code) (λ t. (next_plain code t).unturned) s
+  pub no_guard : (n : ℕ) (k : GuardKind) (a : ℕ) → (run_from code s n).end ≢ Some (Guard k a)
+  no_guard n k a h = let own : false ≡ true = run_own n (Guard k a) h in cc
 
-pub paced : (code : Code) (s : State) → Paced 1 (run_from code s)
-unfolding run_from
-paced code s = turned_paced (λ t. t.cpu.eip) (next code) (λ t. (next_plain code t).unturned) s
+  turns_of : Ticks (run_from code s) × Paced 1 (run_from code s)
+  unfolding run_from
+  turns_of = laws.turned_ticks (λ t. t.cpu.eip) (next code) (λ t. (next_plain code t).unturned) s
+
+  pub ticks : Ticks (run_from code s)
+  ticks = turns_of.0
+
+  pub paced : Paced 1 (run_from code s)
+  paced = turns_of.1

@@ -15,6 +15,10 @@ use Rattle.x86_meaning.specs.Run.{code_of, run_from}
 abbrev pub FrontIsSpelling : Type 0
 FrontIsSpelling = (bytes : List ℕ) → All (λ b. b < 256) bytes → (i : Instr) (len : ℕ) → (front bytes ≡ Some (i, len)) ↔ FrontSpells bytes i len
 
+-- a spelling is found, whatever stands after it
+abbrev pub SpellingIsFound : Type 0
+SpellingIsFound = (bytes rest : List ℕ) (i : Instr) → Spells bytes i → front (bytes ++ rest) ≡ Some (i, length bytes)
+
 -- what spells an instruction here spells it by the whole grammar
 abbrev pub IsWholeSpelling : Type 0
 IsWholeSpelling = (bytes : List ℕ) (i : Instr) → Spells bytes i → SpellsWhole bytes i

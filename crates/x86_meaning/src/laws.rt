@@ -2,15 +2,18 @@
 ghost use Rattle.x86_meaning.specs.Rows.{ExitsLow, ExitsSeven, Loops, MakesOtherCall, ReadStands, Reads, ReadsAndWrites, ReadsFromOne, ReadsIntoCode, ReadsNone, ReadsNothing, ReadsPastPage, StackIsStart, StandsOutside, WritesBelow, WritesByAnswer, WritesStack, WritesText};
 ghost use Rattle.x86_meaning.specs.MemoryLaws.{CanApart, CanByKinds, CanInSame, ForgetAbove, ForgetBelow, ForgetKeepsKinds, ForgetKeepsSame, ForgetOffStack, ForgetThenForget, KnownApart, KnownInSame, PutAllAbove, PutAllBelow, PutAllIsKnown, PutAllKeepsKinds, PutAllKeepsSame, PutAllThere, PutAllWithin, PutElsewhere, PutKeepsSame, PutThere, SameInApart, StackKeepsSame};
 ghost use Rattle.x86_meaning.specs.StateLaws.{CallApart, StartIsForgotten, StepForgets, StepKeepsKinds};
-ghost use Rattle.x86_meaning.specs.Laws.{CodeIsAnyFront, FifteenAreEnough, FrontIsSpelling, IsOnlySpelling, IsWholeSpelling, NoSpellingBeginsAnother, NoneIsNoSpelling, RunsArePaced, RunsGrow, RunsHaveNoGuard, RunsNeverStop, RunsTick, SpellingIsShort};
+ghost use Rattle.x86_meaning.specs.Step.{State};
+ghost use Rattle.x86_meaning.specs.Laws.{CodeIsAnyFront, FifteenAreEnough, FrontIsSpelling, IsOnlySpelling, IsWholeSpelling, NoSpellingBeginsAnother, NoneIsNoSpelling, RunsArePaced, RunsGrow, RunsHaveNoGuard, RunsNeverStop, RunsTick, SpellingIsFound, SpellingIsShort};
 
+use traces::{States, machine_laws_of};
 use x86_grammar::no_spelling_begins_another;
 
-/// Does nothing: its clauses say that the computed front is the relation of spellings, and that a list of bytes has at
-/// most one front that spells an instruction, which it spells by the whole grammar too, and no other
-/// front another.
+/// Does nothing: its clauses say that the computed front is the relation of spellings, that a spelling is found whatever
+/// stands after it, and that a list of bytes has at most one front that spells an instruction, which it spells by the
+/// whole grammar too, and no other front another.
 pub fn spelling_laws()
     ensures front_is_spelling { FrontIsSpelling }
+    ensures spelling_is_found { SpellingIsFound }
     ensures none_is_no_spelling { NoneIsNoSpelling }
     ensures is_whole_spelling { IsWholeSpelling }
     ensures is_only_spelling { IsOnlySpelling }
@@ -22,6 +25,13 @@ pub fn spelling_laws()
     no_spelling_begins_another();
 }
 
+/// Names the states of the machine.
+struct Meaning;
+
+impl States for Meaning {
+    ghost Of = { State };
+}
+
 /// Does nothing: its clauses are the laws of each run, whatever stands at each address and from whatever state.
 pub fn run_laws()
     ensures runs_grow { RunsGrow }
@@ -29,7 +39,9 @@ pub fn run_laws()
     ensures runs_tick { RunsTick }
     ensures runs_are_paced { RunsArePaced }
     ensures runs_have_no_guard { RunsHaveNoGuard }
-{}
+{
+    machine_laws_of::<Meaning>();
+}
 
 /// Does nothing: its clauses say what stands in memory where bytes were put or forgotten.
 pub fn memory_laws()

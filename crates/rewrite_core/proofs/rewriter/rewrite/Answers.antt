@@ -5,7 +5,6 @@ use Rattle.elf_image.specs.Image.{image_of}
 use Rattle.rewrite_core.specs.Places.{IsLeftOut, IsLaid}
 use Rattle.rewrite_core.specs.Layout.{text_of, new_file, new_image}
 use Rattle.rewrite_core.proofs.Outcomes.{plain_file, refused_by_image, other_form_refuses, left_out_refuses, laid_takes, text_is}
-use Rattle.rewrite_core.proofs.Agreements.{new_file_agrees}
 use Rattle.rewrite_core.proofs.rewriter.rewrite.Goals as goal
 
 pub returns-in-Err-Refused : goal.returns-in-Err-Refused
@@ -73,5 +72,5 @@ returns c =
       is = out ∙ c.in_ok-file.ensures.exact ∙ ap (λ t. new_file t code) text;
       read = c.in-Ok.ensures.is ∙ ap Ok read.1;
       accepted = ap (λ f. image_of f Any) out ∙ c.in_ok-file.ensures.accepted ∙ ap (λ t. Ok (new_image t code)) text;
-      agrees = new_file_agrees file code bytes takes laid;
+      agrees = c.agreement_laws.ensures.new_file file code bytes takes laid;
     }

@@ -1,9 +1,12 @@
-use Rattle.x86_meaning.proofs.Spellings.{found_front, spelled_front, no_spelling_begins, short, none_spells, fifteen, any_front}
+use Rattle.x86_meaning.proofs.Spellings.{found, found_front, spelled_front, no_spelling_begins, short, none_spells, fifteen, any_front}
 use Rattle.x86_meaning.proofs.WholeGrammar.{whole_spelling, only_spelling}
 use Rattle.x86_meaning.proofs.laws.spelling_laws.Goals as goal
 
 pub returns-clause-front_is_spelling : goal.returns-clause-front_is_spelling
 returns-clause-front_is_spelling c = λ bytes h i len. (λ e. spelled_front bytes i len h e, λ s. found_front bytes i len s)
+
+pub returns-clause-spelling_is_found : goal.returns-clause-spelling_is_found
+returns-clause-spelling_is_found c = found
 
 pub returns-clause-none_is_no_spelling : goal.returns-clause-none_is_no_spelling
 returns-clause-none_is_no_spelling c = none_spells
