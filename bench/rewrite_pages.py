@@ -1,5 +1,7 @@
 #!/usr/bin/env python3
-"""Times ./sw rewrite on pages of code, beside a call that only reads its words, in one run.
+"""Times rewriting on pages of code, beside a call that only reads its words, in one run.
+
+The program that ./sw builds is called itself, since the script around it takes longer than a rewriting.
 
 Prints for each file the best time of a call, and that time less the call that only reads its words. A page of twice the
 instructions may cost at most four times as much, so that cost doesn't grow with the square of the work, and each call
@@ -15,7 +17,8 @@ import time
 
 TOP = os.path.dirname(os.path.dirname(os.path.abspath(__file__)))
 SW = os.path.join(TOP, "sw")
-CALLS = 15
+PROGRAM = os.path.join(TOP, "crates", "sw_cli", "out", "sw_cli")
+CALLS = 50
 sys.dont_write_bytecode = True
 
 
@@ -30,7 +33,7 @@ def best(words, wanted):
     times = []
     for _ in range(CALLS):
         start = time.perf_counter()
-        status = subprocess.run([SW, *words], stderr=subprocess.DEVNULL, check=False).returncode
+        status = subprocess.run([PROGRAM, *words], stderr=subprocess.DEVNULL, check=False).returncode
         times.append(time.perf_counter() - start)
         if status != wanted:
             sys.exit(f"{words[0]}: status {status} instead of {wanted}")
