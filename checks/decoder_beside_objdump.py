@@ -1,10 +1,10 @@
 #!/usr/bin/env python3
-"""Compares the decoder with objdump over random bytes and over real programs.
+"""Compares decoder and encoder with objdump over the golden table, over random bytes and over real programs.
 
     decoder_beside_objdump.py [FILE..]
 
 The files are i386 ELF files, by default the system's i386 libraries. Of each list of bytes, length and operands have to
-be the same, but for the classes of difference below, which docs/DECISIONS.md explains; each is printed with its number
+be the same, and of each row of the table the shortest spellings have to mean the row's instruction, but for the classes of difference below, which docs/DECISIONS.md explains; each is printed with its number
 and an example. The status is 1 where a difference is in no class. Skipped where objdump is missing.
 """
 
@@ -22,8 +22,8 @@ sys.path.insert(0, os.path.join(TOP, "checks"))
 from elf_text import libraries, text_of  # noqa: E402
 from programs import built  # noqa: E402
 
-RANDOM = 100_000
-REAL = 100_000
+RANDOM = 300_000
+REAL = 400_000
 SEED = 20261201
 # room for the longest instruction, and NOPs in which objdump finds its way again
 KEPT, ROOM = 16, 48
@@ -148,6 +148,7 @@ def plain(text):
     text = re.sub(r"^notrack ", "", text)
     text = re.sub(r"^repz ret$", "ret", text)
     text = re.sub(r"^(cs )+lea ", "lea ", text)
+    text = re.sub(r"^lea (\w+),cs:(?=0x)", r"lea \1,ds:", text)
     text = re.sub(r"^lea (\w+),cs:", r"lea \1,", text)
     text = re.sub(r"^(ret) 0x0$", r"\1", text)
     text = re.sub(r"^((?:rol|ror|shl|shr|sar) .*),1$", r"\1,0x1", text)
@@ -185,7 +186,7 @@ def prefixes_of(bytes_):
 
 
 def class_of(bytes_, line, said):
-    """Why the decoder refuses what objdump reads, or None. The order matters: the first that fits."""
+    """Why the two differ, or None. The order matters: the first that fits."""
     found = prefixes_of(bytes_)
     rest = bytes_[len(found) :]
     opcode = rest[0] if rest else None
@@ -193,6 +194,8 @@ def class_of(bytes_, line, said):
     second = rest[1] if opcode == 0x0F and len(rest) > 1 else None
     words = plain(said).split()
     name = next((word for word in words if word not in PREFIX_WORDS), words[0])
+    if line.startswith("15 Nop") and found == [0x66] * 14:
+        return "fourteen 66 before a NOP"
     if line not in ("Outside", "Short"):
         return None
     if said.strip() == "(bad)" or "(bad)" in said:
@@ -305,11 +308,39 @@ def compare(title, lists):
     return not unknown
 
 
+def table_lists():
+    """The golden table's lists of bytes that begin with an instruction. Of those that are cut off objdump sees more."""
+    folder = os.path.join(TOP, "crates", "instruction_table")
+    with open(os.path.join(folder, "stdin"), "rb") as file, open(os.path.join(folder, "stdout")) as wanted:
+        for line, answer in zip(file.read().split(b"\n"), wanted):
+            if read(answer) is not None:
+                yield bytes.fromhex(line.decode())[:KEPT]
+
+
+def compare_spellings(lists):
+    """Whether objdump reads the shortest spellings of what the lists begin with as the same instructions."""
+    rows = []
+    for line in table_of(lists):
+        row = read(line)
+        if row is not None:
+            rows += [(row, bytes.fromhex(word)) for word in re.findall(r" (?:encode|wide)=([0-9a-f]{2,})", line)]
+    wrong = 0
+    for number, ((row, spelling), (length, said)) in enumerate(zip(rows, objdump_of([bytes_ for _, bytes_ in rows]))):
+        if length != len(spelling) or not same(expected(row[1], row[2], ROOM * number, length), plain(said)):
+            wrong += 1
+            print(f"  ANOTHER MEANING {spelling.hex(' ')}: {' '.join(row[1:2])} | {length} {' '.join(said.split())}")
+    print(f"shortest spellings: {len(rows)}, {wrong} with another meaning")
+    return wrong == 0
+
+
 def main():
     if shutil.which("objdump") is None:
         print("skipped: no objdump")
         return 0
-    good = compare("random bytes", list(random_lists(RANDOM)))
+    table = list(table_lists())
+    good = compare("the golden table", table)
+    good = compare_spellings(table) and good
+    good = compare("random bytes", list(random_lists(RANDOM))) and good
     real = real_lists(sys.argv[1:] or libraries(), REAL)
     if real:
         good = compare("real programs", real) and good

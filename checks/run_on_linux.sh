@@ -9,19 +9,7 @@ folder=$(mktemp -d) || exit 1
 trap 'rm -rf "$folder"' EXIT
 cd "$folder" || exit 1
 ulimit -c 0
-failures=0
-
-# check NAME TEST..: says whether the test holds.
-check() {
-    local name=$1
-    shift
-    if "$@"; then
-        echo "ok       $name"
-    else
-        echo "FAILED   $name"
-        failures=$((failures + 1))
-    fi
-}
+. "$top/checks/check.sh"
 
 # calls STATUS LINE WORDS..: ./sw ends so, says that line alone on the standard error (none if empty), and prints nothing.
 calls() {

@@ -16,19 +16,7 @@ trap 'rm -rf "$folder"' EXIT
 cd "$folder" || exit 1
 ulimit -c 0
 export LC_ALL=C
-failures=0
-
-# check NAME TEST..: says whether the test holds.
-check() {
-    local name=$1
-    shift
-    if "$@"; then
-        echo "ok       $name"
-    else
-        echo "FAILED   $name"
-        failures=$((failures + 1))
-    fi
-}
+. "$top/checks/check.sh"
 
 # objects_to_nothing TOOL WORDS..: it ends with 0, says nothing on the standard error, and no warning.
 objects_to_nothing() {
