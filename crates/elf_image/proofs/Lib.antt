@@ -1,4 +1,3 @@
-pub mod Addresses
 pub mod Extents
 pub mod Headers
 pub mod Permissions

@@ -3,7 +3,7 @@ use Rattle.std.proofs.Common.{◌≡◌, ℕ, ◌==◌, arith}
 use Rattle.std.proofs.lemmas.Nat.Bits.{and_pow}
 use Rattle.std.proofs.lemmas.Bool.Decides.{nat_tests}
 use Rattle.std.specs.Int.RustNames.{bit_and}
-use Rattle.elf_image.specs.Pages.{has}
+use Rattle.image.specs.Addresses.{has}
 
 pub run_bit : (n : ℕ) → (bit_and n 1 == 1) ≡ has n 1
 run_bit n = let e = and_pow n 0 in grind (arith, nat_tests)

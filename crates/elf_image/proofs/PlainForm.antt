@@ -4,16 +4,16 @@ use Rattle.std.proofs.lemmas.Bool.{and_parts, eqb-true, leb-true, le-ltb, ne_eqb
 use Rattle.std.specs.List.{list_any}
 use Rattle.std.proofs.lemmas.List.{take-append-le, length-drop}
 use Rattle.elf_image.specs.declared.header.ProgramHeader.{ProgramHeader}
-use Rattle.elf_image.specs.declared.image.Segment.{Segment}
-use Rattle.elf_image.specs.declared.image.Image.{Image}
-use Rattle.elf_image.specs.declared.perm.Perm.{Perm}
+use Rattle.image.specs.declared.image.Segment.{Segment}
+use Rattle.image.specs.declared.image.Image.{Image}
+use Rattle.image.specs.declared.perm.Perm.{Perm}
 use Rattle.elf_image.specs.declared.refusal.Room.{Room}
 use Rattle.elf_image.specs.declared.refusal.Room.TheVariants.{Source, Any}
 use Rattle.elf_image.specs.declared.refusal.Refusal.{Refusal}
 use Rattle.elf_image.specs.declared.refusal.Refusal.TheVariants.{Short, Magic, Class, Order, Version, Kind, Machine, HeaderSize, HeaderTable, Dynamic, SegmentFile, SegmentSize, SegmentAlign, Permission, Range, SharedPage, Entry, CodeSpan, ImageSize}
 use Rattle.elf_image.specs.Fields.{has_magic, file_kind, machine, entry, table_offset, header_size, header_count, header_at, headers_from, headers_of}
 use Rattle.elf_image.specs.Pages.{window, first_page, page_bytes, end_page, file_end_page, is_segment}
-use Rattle.elf_image.specs.Refusals.{first, tests, segment_tests, segments_of, refusal_of, room_end, room_span, room_size, past_file, is_dynamic, is_too_small, is_out_of_room, any_shares_page, has_address, can_run, code_span, pages_size}
+use Rattle.elf_image.specs.Refusals.{first, tests, segment_tests, segments_of, refusal_of, room_end, room_span, room_size, past_file, is_dynamic, is_too_small, is_out_of_room, any_shares_page, has_address, has_code, code_span, pages_size}
 use Rattle.elf_image.specs.Image.{image_of, image_if, segment_of}
 use Rattle.elf_image.specs.Plain.{is_plain, is_plain_text, is_plain_room, has_plain_header, text_segment, room_segment, PlainIsAccepted, PlainIsRead}
 
@@ -148,7 +148,7 @@ in_room n Any high = rw (le-ltb 0x7C000000 (0x08049000 + n) (omega arith)) refl
 apart : (n : ℕ) → 1 ≤ n → n ≤ 4096 → any_shares_page (plain_headers n) ≡ false
 apart n low high = rw (text_end n low high) refl
 
-entry_in_text : (n : ℕ) → 1 ≤ n → n ≤ 4096 → not (list_any (has_address 0x08049000) (filter can_run (plain_headers n))) ≡ false
+entry_in_text : (n : ℕ) → 1 ≤ n → n ≤ 4096 → not (list_any (has_address 0x08049000) (filter has_code (plain_headers n))) ≡ false
 entry_in_text n low high = rw (text_end n low high) refl
 
 short_code : (n : ℕ) (room : Room) → 1 ≤ n → n ≤ 4096 → ltb (room_span room) (code_span (plain_headers n)) ≡ false

@@ -1,14 +1,14 @@
 -- The tests of a file in three steps: its header, its table, its segments.
 use Rattle.std.proofs.Common.{◌≡◌, ℕ, ◌∙◌, Bool, true, false, cond, not, ltb, List, [], ◌∷◌, ◌++◌, length, map, filter, Some, None, Ok, Err, refl, ap, sym}
 use Rattle.std.specs.List.{list_any}
-use Rattle.elf_image.specs.declared.image.Image.{Image}
-use Rattle.elf_image.specs.declared.image.Segment.{Segment}
+use Rattle.image.specs.declared.image.Image.{Image}
+use Rattle.image.specs.declared.image.Segment.{Segment}
 use Rattle.elf_image.specs.declared.header.ProgramHeader.{ProgramHeader}
 use Rattle.elf_image.specs.declared.refusal.Room.{Room}
 use Rattle.elf_image.specs.declared.refusal.Refusal.{Refusal}
 use Rattle.elf_image.specs.declared.refusal.Refusal.TheVariants.{Dynamic, SegmentFile, SegmentSize, SegmentAlign, Permission, Range, SharedPage, Entry, CodeSpan, ImageSize}
 use Rattle.elf_image.specs.Fields.{entry, headers_of}
-use Rattle.elf_image.specs.Refusals.{first, header_tests, segment_tests, segments_of, refusal_of, is_dynamic, is_out_of_room, room_end, room_span, room_size, any_shares_page, has_address, can_run, code_span, pages_size}
+use Rattle.elf_image.specs.Refusals.{first, header_tests, segment_tests, segments_of, refusal_of, is_dynamic, is_out_of_room, room_end, room_span, room_size, any_shares_page, has_address, has_code, code_span, pages_size}
 use Rattle.elf_image.specs.Image.{image_of, image_if, segment_of}
 use Rattle.elf_image.proofs.Rooms.{within_any}
 
@@ -75,7 +75,7 @@ fifth false false false false false q r s t u ts none = refl
 
 abbrev later_tests : ℕ → Room → List ProgramHeader → List (Bool × Refusal)
 later_tests at room hs =
-    (any_shares_page hs, SharedPage) ∷ (not (list_any (has_address at) (filter can_run hs)), Entry) ∷ (ltb (room_span room) (code_span hs), CodeSpan)
+    (any_shares_page hs, SharedPage) ∷ (not (list_any (has_address at) (filter has_code hs)), Entry) ∷ (ltb (room_span room) (code_span hs), CodeSpan)
     ∷ (ltb (room_size room) (pages_size hs), ImageSize) ∷ []
 
 pub all_in_room : (n at : ℕ) (room : Room) (hs : List ProgramHeader) → first (segment_tests n at room hs) ≡ None → list_any (is_out_of_room 0x7C000000) hs ≡ false

@@ -3,7 +3,8 @@ use Rattle.std.proofs.Common.{refl}
 use Rattle.elf_image.specs.Fields.{headers_from}
 use Rattle.elf_image.specs.Refusals.{refusal_of}
 use Rattle.elf_image.specs.Plain.{is_plain}
-use Rattle.elf_image.specs.Image.{image_of, segment_at}
+use Rattle.image.specs.Addresses.{segment_at}
+use Rattle.elf_image.specs.Image.{image_of}
 use Rattle.elf_image.specs.Rows.{EmptyFile, MagicAlone, SevenFile, WritableCode, LinkedFile, linked_file, file_with}
 
 pub empty_file : EmptyFile

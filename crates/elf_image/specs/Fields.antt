@@ -1,13 +1,7 @@
 -- The fields of a file's header and of its program headers, lowest byte first (gABI, "ELF Header", "Program Header").
 use Rattle.std.specs.Prelude.{ℕ, zero, suc, ◌+◌, ◌*◌, ◌==◌, ◌&&◌, Bool, List, [], ◌∷◌, slice_index}
+use Rattle.byte_lists.specs.LittleEndian.{half_at, word_at}
 use Rattle.elf_image.specs.declared.header.ProgramHeader.{ProgramHeader}
-
--- two and four bytes from a place on; past the end of the file they count as 0
-abbrev pub half_at : List ℕ → ℕ → ℕ
-half_at file i = slice_index file i + 256 * slice_index file (i + 1)
-
-abbrev pub word_at : List ℕ → ℕ → ℕ
-word_at file i = slice_index file i + 256 * slice_index file (i + 1) + 65536 * slice_index file (i + 2) + 16777216 * slice_index file (i + 3)
 
 -- 7F 45 4C 46
 abbrev pub has_magic : List ℕ → Bool

@@ -1,14 +1,11 @@
 -- The pages of a segment, of 4,096 bytes each, and their bytes.
 use Rattle.std.specs.Prelude.{ℕ, ◌+◌, ◌-◌, ◌*◌, ◌/◌, ◌%◌, ◌==◌, ◌&&◌, Bool, cond, not, ltb, List, ◌++◌, take, drop, replicate}
+use Rattle.image.specs.Addresses.{has}
 use Rattle.elf_image.specs.declared.header.ProgramHeader.{ProgramHeader}
 
 -- a header of type PT_LOAD (1) with a size is a segment
 abbrev pub is_segment : ProgramHeader → Bool
 is_segment h = h.kind == 1 && not (h.file_size == 0 && h.memory_size == 0)
-
--- whether a set of permissions has this one: X 1, W 2, R 4
-abbrev pub has : ℕ → ℕ → Bool
-has flags bit = (flags / bit % 2) == 1
 
 -- the number of the first page, of the page after the last, and of the page after the last file page
 abbrev pub first_page : ProgramHeader → ℕ

@@ -1,8 +1,8 @@
 -- The plain form: the one file layout that is rewritten so far. (own)
 use Rattle.std.specs.Prelude.{◌≡◌, ℕ, ◌==◌, ◌&&◌, Bool, true, leb, List, [], ◌∷◌, length, take, drop, Ok, slice_index}
 use Rattle.elf_image.specs.declared.header.ProgramHeader.{ProgramHeader}
-use Rattle.elf_image.specs.declared.image.Segment.{Segment}
-use Rattle.elf_image.specs.declared.image.Image.{Image}
+use Rattle.image.specs.declared.image.Segment.{Segment}
+use Rattle.image.specs.declared.image.Image.{Image}
 use Rattle.elf_image.specs.declared.refusal.Room.{Room}
 use Rattle.elf_image.specs.Fields.{has_magic, file_kind, machine, entry, table_offset, header_size, header_count, header_at}
 use Rattle.elf_image.specs.Image.{image_of}

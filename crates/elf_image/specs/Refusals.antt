@@ -7,7 +7,8 @@ use Rattle.elf_image.specs.declared.refusal.Room.TheVariants.{Source, Any}
 use Rattle.elf_image.specs.declared.refusal.Refusal.{Refusal}
 use Rattle.elf_image.specs.declared.refusal.Refusal.TheVariants.{Short, Magic, Class, Order, Version, Kind, Machine, HeaderSize, HeaderTable, Dynamic, SegmentFile, SegmentSize, SegmentAlign, Permission, Range, SharedPage, Entry, CodeSpan, ImageSize}
 use Rattle.elf_image.specs.Fields.{has_magic, file_kind, machine, entry, table_offset, header_size, header_count, headers_of}
-use Rattle.elf_image.specs.Pages.{is_segment, has, first_page, end_page}
+use Rattle.image.specs.Addresses.{has}
+use Rattle.elf_image.specs.Pages.{is_segment, first_page, end_page}
 
 -- the answer of the first test that holds
 abbrev pub first : {A : Type 0} → List (Bool × A) → Option A
@@ -57,8 +58,8 @@ abbrev pub any_shares_page : List ProgramHeader → Bool
 any_shares_page [] = false
 any_shares_page (h ∷ hs) = list_any (shares_page h) hs || any_shares_page hs
 
-abbrev pub can_run : ProgramHeader → Bool
-can_run h = has h.flags 1
+abbrev pub has_code : ProgramHeader → Bool
+has_code h = has h.flags 1
 
 abbrev pub has_address : ℕ → ProgramHeader → Bool
 has_address a h = leb (first_page h) (a / 4096) && ltb (a / 4096) (end_page h)
@@ -74,7 +75,7 @@ least (x ∷ y ∷ xs) = min x (least (y ∷ xs))
 
 -- the bytes from the first page that can be run to the end of the last
 abbrev pub code_span : List ProgramHeader → ℕ
-code_span hs = 4096 * (greatest (map end_page (filter can_run hs)) - least (map first_page (filter can_run hs)))
+code_span hs = 4096 * (greatest (map end_page (filter has_code hs)) - least (map first_page (filter has_code hs)))
 
 abbrev pub pages_size : List ProgramHeader → ℕ
 pages_size hs = 4096 * sum (map (λ h. end_page h - first_page h) hs)
@@ -102,7 +103,7 @@ segment_tests n at room hs =
     ∷ (list_any is_forbidden hs, Permission)
     ∷ (list_any (is_out_of_room (room_end room)) hs, Range)
     ∷ (any_shares_page hs, SharedPage)
-    ∷ (not (list_any (has_address at) (filter can_run hs)), Entry)
+    ∷ (not (list_any (has_address at) (filter has_code hs)), Entry)
     ∷ (ltb (room_span room) (code_span hs), CodeSpan)
     ∷ (ltb (room_size room) (pages_size hs), ImageSize)
     ∷ []

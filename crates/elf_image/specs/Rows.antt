@@ -1,30 +1,22 @@
 -- Files that are written out, and what the definition of an image says of each.
 use Rattle.std.specs.Prelude.{◌≡◌, ℕ, ◌-◌, ◌/◌, ◌%◌, true, false, List, [], ◌∷◌, ◌++◌, length, replicate, Some, None, Err, slice_set, IsOkAnd}
-use Rattle.elf_image.specs.declared.image.Image.{Image}
+use Rattle.byte_lists.specs.LittleEndian.{half_bytes, word_bytes, zeros}
+use Rattle.image.specs.declared.image.Image.{Image}
 use Rattle.elf_image.specs.declared.refusal.Room.{Room}
 use Rattle.elf_image.specs.declared.refusal.Room.TheVariants.{Source}
 use Rattle.elf_image.specs.declared.refusal.Refusal.TheVariants.{Short, Class, Permission, SegmentFile}
 use Rattle.elf_image.specs.Plain.{is_plain}
-use Rattle.elf_image.specs.Image.{image_of, byte_at, code_byte_at, can_write}
-
--- the bytes of a half and of a word, lowest first
-abbrev pub half : ℕ → List ℕ
-half n = n % 256 ∷ n / 256 % 256 ∷ []
-
-abbrev pub word : ℕ → List ℕ
-word n = n % 256 ∷ n / 256 % 256 ∷ n / 65536 % 256 ∷ n / 16777216 % 256 ∷ []
-
-abbrev pub zeros : ℕ → List ℕ
-zeros n = replicate n 0
+use Rattle.image.specs.Addresses.{byte_at, code_byte_at, can_write}
+use Rattle.elf_image.specs.Image.{image_of}
 
 -- the header of an executable for the i386 that begins at 0x08049000, with n program headers at 52 and no sections
 abbrev pub file_header : ℕ → List ℕ
 file_header n =
-    0x7F ∷ 0x45 ∷ 0x4C ∷ 0x46 ∷ 1 ∷ 1 ∷ 1 ∷ zeros 9 ++ half 2 ++ half 3 ++ word 1 ++ word 0x08049000 ++ word 52 ++ zeros 8 ++ half 52 ++ half 32 ++ half n ++ zeros 6
+    0x7F ∷ 0x45 ∷ 0x4C ∷ 0x46 ∷ 1 ∷ 1 ∷ 1 ∷ zeros 9 ++ half_bytes 2 ++ half_bytes 3 ++ word_bytes 1 ++ word_bytes 0x08049000 ++ word_bytes 52 ++ zeros 8 ++ half_bytes 52 ++ half_bytes 32 ++ half_bytes n ++ zeros 6
 
 -- a program header; its physical address is its address, and its alignment a page
 abbrev pub segment_header : ℕ → ℕ → ℕ → ℕ → ℕ → List ℕ
-segment_header offset address file_size memory_size flags = word 1 ++ word offset ++ word address ++ word address ++ word file_size ++ word memory_size ++ word flags ++ word 4096
+segment_header offset address file_size memory_size flags = word_bytes 1 ++ word_bytes offset ++ word_bytes address ++ word_bytes address ++ word_bytes file_size ++ word_bytes memory_size ++ word_bytes flags ++ word_bytes 4096
 
 -- the plain file with this code, of a page at most
 unfoldable pub file_with : List ℕ → List ℕ
@@ -75,7 +67,7 @@ linked_code =
 unfoldable pub linked_file : List ℕ
 linked_file =
     file_header 5 ++ segment_header 0 0x08048000 0xD4 0xD4 4 ++ segment_header 0x1000 0x08049000 62 62 5 ++ segment_header 0x2000 0x0804A000 4 4 4
-    ++ segment_header 0x3000 0x0804B000 4 16 6 ++ word 0x6474E551 ++ zeros 20 ++ word 6 ++ zeros 4 ++ zeros 3884
+    ++ segment_header 0x3000 0x0804B000 4 16 6 ++ word_bytes 0x6474E551 ++ zeros 20 ++ word_bytes 6 ++ zeros 4 ++ zeros 3884
     ++ linked_code ++ zeros 4034 ++ zeros 4096 ++ zeros 4
 
 abbrev pub ShowsLinked : Image → Type 0

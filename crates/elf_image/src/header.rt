@@ -1,8 +1,8 @@
 // The fields of a file's header and of its program headers.
 ghost use Rattle.std.specs.Prelude.{◌≡◌, ◌+◌, ◌≤◌, length};
-ghost use Rattle.elf_image.specs.Fields.{half_at, word_at, header_at, has_magic};
+ghost use Rattle.elf_image.specs.Fields.{header_at, has_magic};
 
-use byteorder::{ByteOrder, LittleEndian};
+use byte_lists::word_at;
 
 /// The fields of a program header that count here (gABI, "Program Header"): p_type, p_offset, p_vaddr, p_filesz,
 /// p_memsz, p_flags. Sizes are in bytes.
@@ -24,31 +24,17 @@ pub(crate) fn has_magic(bytes: &[u8]) -> bool
     bytes[0] == 0x7F && bytes[1] == b'E' && bytes[2] == b'L' && bytes[3] == b'F'
 }
 
-pub(crate) fn half(bytes: &[u8], i: usize) -> u16
-    requires { i + 2 ≤ length bytes.now }
-    ensures { result ≡ half_at bytes.now i }
-{
-    LittleEndian::read_u16(&bytes[i..])
-}
-
-pub(crate) fn word(bytes: &[u8], i: usize) -> u32
-    requires { i + 4 ≤ length bytes.now }
-    ensures { result ≡ word_at bytes.now i }
-{
-    LittleEndian::read_u32(&bytes[i..])
-}
-
 /// The program header that stands at a place.
 pub(crate) fn header_at(bytes: &[u8], i: usize) -> ProgramHeader
     requires { i + 32 ≤ length bytes.now }
     ensures { result ≡ header_at bytes.now i }
 {
     ProgramHeader {
-        kind: word(bytes, i),
-        offset: word(bytes, i + 4),
-        address: word(bytes, i + 8),
-        file_size: word(bytes, i + 16),
-        memory_size: word(bytes, i + 20),
-        flags: word(bytes, i + 24),
+        kind: word_at(bytes, i),
+        offset: word_at(bytes, i + 4),
+        address: word_at(bytes, i + 8),
+        file_size: word_at(bytes, i + 16),
+        memory_size: word_at(bytes, i + 20),
+        flags: word_at(bytes, i + 24),
     }
 }

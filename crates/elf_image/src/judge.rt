@@ -5,11 +5,12 @@ ghost use Rattle.elf_image.specs.Pages.{is_segment};
 ghost use Rattle.elf_image.specs.Refusals.{first, header_tests, segment_tests, room_end, room_span, room_size, is_dynamic, past_file, is_too_small, is_misaligned, is_forbidden, is_out_of_room, has_address};
 
 use crate::extent::{pages_size, span_of};
-use crate::header::{half, has_magic, word};
+use crate::header::has_magic;
 use crate::overlap::any_shares_page;
 use crate::pages::{can_read, can_run, can_write, end_page, first_page};
 use crate::table::code_segments;
 use crate::{ProgramHeader, Refusal, Room};
+use byte_lists::{half_at, word_at};
 use std::alloc::{AllocError, Global};
 
 /// The first refusal of a file for its header, if there is one.
@@ -31,16 +32,16 @@ pub(crate) fn header_refusal(bytes: &[u8]) -> Option<Refusal>
     if bytes[6] != 1 {
         return Some(Refusal::Version);
     }
-    if half(bytes, 16) != 2 {
+    if half_at(bytes, 16) != 2 {
         return Some(Refusal::Kind);
     }
-    if half(bytes, 18) != 3 {
+    if half_at(bytes, 18) != 3 {
         return Some(Refusal::Machine);
     }
-    if half(bytes, 42) != 32 {
+    if half_at(bytes, 42) != 32 {
         return Some(Refusal::HeaderSize);
     }
-    let table_end = u64::from(word(bytes, 28)) + 32 * u64::from(half(bytes, 44));
+    let table_end = u64::from(word_at(bytes, 28)) + 32 * u64::from(half_at(bytes, 44));
     if (bytes.len() as u64) < table_end {
         return Some(Refusal::HeaderTable);
     }

@@ -1,9 +1,11 @@
 // The pages of a segment, of 4,096 bytes each, and what may be done with them.
 ghost use Rattle.std.specs.Prelude.{◌≡◌, ◌^◌, ◌<◌};
-ghost use Rattle.elf_image.specs.Pages.{first_page, end_page, file_end_page, has};
+ghost use Rattle.image.specs.Addresses.{has};
+ghost use Rattle.elf_image.specs.Pages.{first_page, end_page, file_end_page};
 
-use crate::{Perm, ProgramHeader};
+use crate::ProgramHeader;
 use bitflags::Flags;
+use image::Perm;
 
 /// The number of the segment's first page.
 pub(crate) fn first_page(h: ProgramHeader) -> u64

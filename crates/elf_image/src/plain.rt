@@ -3,7 +3,8 @@ ghost use Rattle.std.specs.Prelude.{◌≡◌, ◌≤◌, length};
 ghost use Rattle.elf_image.specs.Plain.{has_plain_header, is_plain_text, is_plain_room, is_plain};
 
 use crate::ProgramHeader;
-use crate::header::{half, header_at, word};
+use crate::header::header_at;
+use byte_lists::{half_at, word_at};
 
 /// Whether a file has the plain form: 8,192 bytes, one page of code and one page of zeros.
 #[tactic(auto, unfolding(crate::specs::Plain::is_plain))]
@@ -23,12 +24,12 @@ fn has_plain_header(bytes: &[u8]) -> bool
     bytes[4] == 1
         && bytes[5] == 1
         && bytes[6] == 1
-        && half(bytes, 16) == 2
-        && half(bytes, 18) == 3
-        && word(bytes, 24) == 0x08049000
-        && word(bytes, 28) == 52
-        && half(bytes, 42) == 32
-        && half(bytes, 44) == 2
+        && half_at(bytes, 16) == 2
+        && half_at(bytes, 18) == 3
+        && word_at(bytes, 24) == 0x08049000
+        && word_at(bytes, 28) == 52
+        && half_at(bytes, 42) == 32
+        && half_at(bytes, 44) == 2
 }
 
 fn is_plain_text(h: ProgramHeader) -> bool

@@ -5,10 +5,11 @@ ghost use Rattle.elf_image.specs.Pages.{window, page_bytes};
 ghost use Rattle.elf_image.specs.Refusals.{is_out_of_room};
 ghost use Rattle.elf_image.specs.Image.{segment_of};
 
+use crate::ProgramHeader;
 use crate::pages::{can_write, end_page, file_end_page, first_page};
-use crate::{Perm, ProgramHeader, Segment};
+use byte_lists::ByteList;
+use image::{Perm, Segment};
 use std::alloc::{AllocError, Global};
-use x86_values::ByteList;
 
 /// So many bytes of a file from a place on, and zeros past its end.
 fn window(alloc: Global, bytes: &[u8], from: usize, size: usize) -> Result<Vec<u8>, AllocError>

@@ -2,10 +2,11 @@
 ghost use Rattle.std.specs.Prelude.{◌≡◌, ◌+◌, ◌*◌, ◌<◌, ◌≤◌, ◌^◌, length, vec_len, filter, IfOk};
 ghost use Rattle.elf_image.specs.Fields.{headers_of, header_count, table_offset};
 ghost use Rattle.elf_image.specs.Pages.{is_segment};
-ghost use Rattle.elf_image.specs.Refusals.{can_run};
+ghost use Rattle.elf_image.specs.Refusals.{has_code};
 
-use crate::header::{half, header_at, word};
+use crate::header::header_at;
 use crate::{ProgramHeader, pages};
+use byte_lists::{half_at, word_at};
 use std::alloc::{AllocError, Global};
 
 /// All program headers of a file, in the order of its table.
@@ -16,8 +17,8 @@ pub(crate) fn headers(alloc: Global, bytes: &[u8]) -> Result<Vec<ProgramHeader>,
     ensures are { IfOk result (λ headers. headers.items ≡ headers_of bytes.now) }
     ensures few { IfOk result (λ headers. vec_len headers < 2 ^ 16) }
 {
-    let table = word(bytes, 28) as usize;
-    let count = half(bytes, 44) as usize;
+    let table = word_at(bytes, 28) as usize;
+    let count = half_at(bytes, 44) as usize;
     let mut headers = Vec::with_capacity(alloc, count)?;
     for i in 0..count {
         headers.push(header_at(bytes, table + 32 * i))?;
@@ -51,7 +52,7 @@ pub(crate) fn code_segments(
     alloc: Global,
     segments: &[ProgramHeader],
 ) -> Result<Vec<ProgramHeader>, AllocError>
-    ensures { IfOk result (λ code. code.items ≡ filter can_run segments.now) }
+    ensures { IfOk result (λ code. code.items ≡ filter has_code segments.now) }
 {
     segments
         .iter()

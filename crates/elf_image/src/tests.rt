@@ -1,6 +1,7 @@
 ghost use Rattle.std.specs.Prelude.{◌≡◌, ◌+◌, ◌≤◌, length, IfOk};
 
-use crate::{Image, ImageError, Refusal, Room, Segment, byte_at, can_run, read_image};
+use crate::{ImageError, Refusal, Room, read_image};
+use image::{Image, Segment, byte_at, can_run};
 use std::alloc::{AllocError, Global};
 use std::process::Abort;
 use std::test::Fail;

@@ -4,13 +4,13 @@ use Rattle.std.specs.List.{list_any, sum_by}
 use Rattle.std.proofs.lemmas.List.{length-replicate, drop_at}
 use Rattle.std.proofs.lemmas.Bool.{le-ltb, not_from_true}
 use Rattle.elf_image.specs.declared.header.ProgramHeader.{ProgramHeader}
-use Rattle.elf_image.specs.declared.image.Segment.{Segment}
+use Rattle.image.specs.declared.image.Segment.{Segment}
 use Rattle.elf_image.specs.declared.refusal.Refusal.TheVariants.{Dynamic}
 use Rattle.elf_image.specs.declared.refusal.Room.TheVariants.{Any}
 use Rattle.elf_image.specs.Fields.{entry, header_count, headers_from, headers_of}
 use Rattle.elf_image.specs.Pages.{is_segment}
-use Rattle.elf_image.specs.Rows.{zeros}
-use Rattle.elf_image.specs.Refusals.{first, room_end, room_span, room_size, is_dynamic, past_file, is_too_small, is_misaligned, is_forbidden, is_out_of_room, any_shares_page, has_address, can_run, code_span, pages_size, segment_tests, segments_of, refusal_of}
+use Rattle.byte_lists.specs.LittleEndian.{zeros}
+use Rattle.elf_image.specs.Refusals.{first, room_end, room_span, room_size, is_dynamic, past_file, is_too_small, is_misaligned, is_forbidden, is_out_of_room, any_shares_page, has_address, has_code, code_span, pages_size, segment_tests, segments_of, refusal_of}
 use Rattle.elf_image.specs.Image.{segment_of, image_if, image_of}
 use Rattle.elf_writer.specs.Wanted.{CanBeWritten, image_with, run_span}
 use Rattle.elf_writer.specs.Written.{elf_header, headers_for, table_bytes, data_of, table_end, data_start, written}
@@ -97,7 +97,7 @@ segments_pass ss at offset n w even long =
     (passes (list_any is_forbidden hs) _ _ (none_of is_forbidden not_forbidden offset ss even w.each)
     (passes (list_any (is_out_of_room (room_end Any)) hs) _ _ (none_of (is_out_of_room (room_end Any)) not_out_of_room offset ss even w.each)
     (passes (any_shares_page hs) _ _ (none_shares_page offset ss w.each w.apart)
-    (passes (not (list_any (has_address at) (filter can_run hs))) _ _ (not_from_true (list_any (has_address at) (filter can_run hs)) (entry_can_run offset at ss w.entered))
+    (passes (not (list_any (has_address at) (filter has_code hs))) _ _ (not_from_true (list_any (has_address at) (filter has_code hs)) (entry_can_run offset at ss w.entered))
     (passes (ltb (room_span Any) (code_span hs)) _ _ (ap (ltb (room_span Any)) (code_span_is offset ss w.each) ∙ le-ltb (room_span Any) (run_span ss) w.span)
     (passes (ltb (room_size Any) (pages_size hs)) _ _ (ap (ltb (room_size Any)) (pages_size_is offset ss w.each) ∙ le-ltb (room_size Any) (sum_by (λ s. s.size) ss) w.total) refl))))))))
 

@@ -1,6 +1,7 @@
 -- The file that is written for one page of code and one of zeros.
 use Rattle.std.proofs.Common.{ℕ, ◌+◌, List, [], ◌++◌, ap, ◌∙◌, append-nil}
-use Rattle.elf_image.specs.Rows.{file_header, segment_header, zeros}
+use Rattle.byte_lists.specs.LittleEndian.{zeros}
+use Rattle.elf_image.specs.Rows.{file_header, segment_header}
 use Rattle.elf_writer.specs.Written.{elf_header, header_bytes, written}
 use Rattle.elf_writer.specs.Laws.{PlainIsWritten}
 

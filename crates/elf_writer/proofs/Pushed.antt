@@ -1,7 +1,7 @@
 -- What is pushed is the written file.
 use Rattle.std.proofs.Common.{◌≡◌, ℕ, ◌+◌, ◌-◌, ◌%◌, ◌<◌, ◌≤◌, List, [], ◌++◌, length, ap, ◌∙◌, arith}
-use Rattle.elf_image.specs.declared.image.Segment.{Segment}
-use Rattle.elf_image.specs.Rows.{zeros}
+use Rattle.image.specs.declared.image.Segment.{Segment}
+use Rattle.byte_lists.specs.LittleEndian.{zeros}
 use Rattle.elf_writer.specs.Written.{elf_header, table_bytes, data_of, table_end, data_start, written}
 
 pub start_is : (count start : ℕ) → table_end count ≤ start → start < table_end count + 4096 → start % 4096 ≡ 0 → start ≡ data_start count

@@ -8,14 +8,15 @@ use Rattle.std.proofs.lemmas.Result.{IfOk-at_ok}
 use Rattle.std.proofs.lemmas.Bool.{ltb-false, ltb-true, leb-true, le-leb, lt-ltb, and_parts, and_from, or_parts, or_cases, or_left, or_right, not-false}
 use Rattle.std.proofs.lemmas.Bool.Decides.{nat_tests}
 use Rattle.elf_image.specs.declared.header.ProgramHeader.{ProgramHeader}
-use Rattle.elf_image.specs.declared.image.Segment.{Segment}
-use Rattle.elf_image.specs.declared.image.Image.{Image}
+use Rattle.image.specs.declared.image.Segment.{Segment}
+use Rattle.image.specs.declared.image.Image.{Image}
 use Rattle.elf_image.specs.declared.refusal.Refusal.{Refusal}
 use Rattle.elf_image.specs.declared.refusal.Room.TheVariants.{Any}
 use Rattle.elf_image.specs.Fields.{entry, header_count, table_offset, headers_from, headers_of}
 use Rattle.elf_image.specs.Pages.{is_segment, first_page, end_page}
-use Rattle.elf_image.specs.Refusals.{first, room_span, room_size, is_too_small, is_forbidden, is_out_of_room, room_end, shares_page, any_shares_page, can_run, has_address, greatest, least, code_span, pages_size, segments_of, tests, refusal_of}
-use Rattle.elf_image.specs.Image.{segment_of, image_if, image_of, holds}
+use Rattle.elf_image.specs.Refusals.{first, room_span, room_size, is_too_small, is_forbidden, is_out_of_room, room_end, shares_page, any_shares_page, has_code, has_address, greatest, least, code_span, pages_size, segments_of, tests, refusal_of}
+use Rattle.image.specs.Addresses.{holds}
+use Rattle.elf_image.specs.Image.{segment_of, image_if, image_of}
 use Rattle.elf_writer.specs.Wanted.{CanBeWritten, HasItsPlace, segment_end, meets, NoneMeet, runs, runs_at, run_span}
 use Rattle.elf_writer.specs.Laws.{ReadImagesCanBeWritten}
 use Rattle.elf_writer.proofs.ReadSegments.{IsSound, all_sound, filter_each, length_filter, runs_low, has_place}
@@ -75,24 +76,24 @@ holds_address file a h e =
     let to : a / 4096 < end_page h = ltb-true (a / 4096) (end_page h) parts.1 in
     and_from _ _ (le-leb (4096 * first_page h) a (omega (arith, from))) (lt-ltb a (4096 * first_page h + 4096 * (end_page h - first_page h)) (omega (arith, from, to)))
 
-runs_there : (file : List ℕ) (a : ℕ) (hs : List ProgramHeader) → list_any (has_address a) (filter can_run hs) ≡ true → list_any (runs_at a) (segments file hs) ≡ true
+runs_there : (file : List ℕ) (a : ℕ) (hs : List ProgramHeader) → list_any (has_address a) (filter has_code hs) ≡ true → list_any (runs_at a) (segments file hs) ≡ true
 runs_there file a [] e = e
-runs_there file a (h ∷ hs) e = step (can_run h) refl (runs_there file a hs) e
+runs_there file a (h ∷ hs) e = step (has_code h) refl (runs_there file a hs) e
   where
-    step : (b : Bool) → can_run h ≡ b → (list_any (has_address a) (filter can_run hs) ≡ true → list_any (runs_at a) (segments file hs) ≡ true)
-        → list_any (has_address a) (cond b (h ∷ filter can_run hs) (filter can_run hs)) ≡ true → list_any (runs_at a) (segments file (h ∷ hs)) ≡ true
+    step : (b : Bool) → has_code h ≡ b → (list_any (has_address a) (filter has_code hs) ≡ true → list_any (runs_at a) (segments file hs) ≡ true)
+        → list_any (has_address a) (cond b (h ∷ filter has_code hs) (filter has_code hs)) ≡ true → list_any (runs_at a) (segments file (h ∷ hs)) ≡ true
     step true r more e =
         let low : runs (segment_of file h) ≡ true = runs_low h.flags ∙ r in
         ⊎_elim (λ x. or_left (runs_at a (segment_of file h)) (list_any (runs_at a) (segments file hs)) (and_from (runs (segment_of file h)) (holds a (segment_of file h)) low (holds_address file a h x)))
-        (λ x. or_right (runs_at a (segment_of file h)) (list_any (runs_at a) (segments file hs)) (more x)) (or_cases (has_address a h) (list_any (has_address a) (filter can_run hs)) e)
+        (λ x. or_right (runs_at a (segment_of file h)) (list_any (runs_at a) (segments file hs)) (more x)) (or_cases (has_address a h) (list_any (has_address a) (filter has_code hs)) e)
     step false r more e = or_right (runs_at a (segment_of file h)) (list_any (runs_at a) (segments file hs)) (more e)
 
 -- ---- the span of the code, and the size of all pages
-kept_alike : (file : List ℕ) (hs : List ProgramHeader) → filter runs (segments file hs) ≡ segments file (filter can_run hs)
+kept_alike : (file : List ℕ) (hs : List ProgramHeader) → filter runs (segments file hs) ≡ segments file (filter has_code hs)
 kept_alike file [] = refl
-kept_alike file (h ∷ hs) = ap (λ (b : Bool). cond b (segment_of file h ∷ filter runs (segments file hs)) (filter runs (segments file hs))) (runs_low h.flags) ∙ step (can_run h) _ (kept_alike file hs)
+kept_alike file (h ∷ hs) = ap (λ (b : Bool). cond b (segment_of file h ∷ filter runs (segments file hs)) (filter runs (segments file hs))) (runs_low h.flags) ∙ step (has_code h) _ (kept_alike file hs)
   where
-    step : (b : Bool) (ss : List Segment) → ss ≡ segments file (filter can_run hs) → cond b (segment_of file h ∷ ss) ss ≡ segments file (cond b (h ∷ filter can_run hs) (filter can_run hs))
+    step : (b : Bool) (ss : List Segment) → ss ≡ segments file (filter has_code hs) → cond b (segment_of file h ∷ ss) ss ≡ segments file (cond b (h ∷ filter has_code hs) (filter has_code hs))
     step true ss e = ap (λ (rs : List Segment). segment_of file h ∷ rs) e
     step false ss e = e
 
@@ -114,7 +115,7 @@ least_scaled file (h ∷ k ∷ hs) = scaled _ _ _ (least_scaled file (k ∷ hs))
     scaled x z w q = omega arith
 
 run_span_is : (file : List ℕ) (hs : List ProgramHeader) → run_span (segments file hs) ≡ code_span hs
-run_span_is file hs = rw (kept_alike file hs) (scaled _ _ _ _ (greatest_scaled file (filter can_run hs)) (least_scaled file (filter can_run hs)))
+run_span_is file hs = rw (kept_alike file hs) (scaled _ _ _ _ (greatest_scaled file (filter has_code hs)) (least_scaled file (filter has_code hs)))
   where
     scaled : (x y z w : ℕ) → y ≡ 4096 * x → w ≡ 4096 * z → y - w ≡ 4096 * (x - z)
     scaled x y z w p q = omega arith
@@ -144,7 +145,7 @@ pub record Passes (n at : ℕ) (hs : List ProgramHeader) : Type 0 where
   pub forbidden : list_any is_forbidden hs ≡ false
   pub room : list_any (is_out_of_room (room_end Any)) hs ≡ false
   pub apart : any_shares_page hs ≡ false
-  pub entered : not (list_any (has_address at) (filter can_run hs)) ≡ false
+  pub entered : not (list_any (has_address at) (filter has_code hs)) ≡ false
   pub span : ltb (room_span Any) (code_span hs) ≡ false
   pub size : ltb (room_size Any) (pages_size hs) ≡ false
 
@@ -173,7 +174,7 @@ segments_can_be_written file bytes e =
       few = few_segments file bytes;
       each = all_have_places file hs (all_sound hs (filter_each is_segment (headers_of file)) p.small p.forbidden p.room);
       apart = none_meet file hs p.apart;
-      entered = runs_there file (entry file) hs (not-false (list_any (has_address (entry file)) (filter can_run hs)) p.entered);
+      entered = runs_there file (entry file) hs (not-false (list_any (has_address (entry file)) (filter has_code hs)) p.entered);
       span = rw (run_span_is file hs) (ltb-false (room_span Any) (code_span hs) p.span);
       total = rw (sizes_are file hs ∙ sym (ap (λ (n : ℕ). 4096 * n) (sum-map pages hs))) (ltb-false (room_size Any) (pages_size hs) p.size);
     }

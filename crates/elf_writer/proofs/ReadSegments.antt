@@ -7,7 +7,8 @@ use Rattle.std.proofs.lemmas.Bool.{ltb-false, and_parts, or_parts, not-true, not
 use Rattle.std.proofs.lemmas.Bool.Decides.{nat_tests}
 use Rattle.elf_image.specs.declared.header.ProgramHeader.{ProgramHeader}
 use Rattle.elf_image.specs.declared.refusal.Room.TheVariants.{Any}
-use Rattle.elf_image.specs.Pages.{is_segment, has, first_page, file_end_page, window, zeroed_from, page_bytes}
+use Rattle.image.specs.Addresses.{has}
+use Rattle.elf_image.specs.Pages.{is_segment, first_page, file_end_page, window, zeroed_from, page_bytes}
 use Rattle.elf_image.specs.Refusals.{room_end, is_too_small, is_forbidden, is_out_of_room}
 use Rattle.elf_image.specs.Image.{segment_of}
 use Rattle.elf_writer.specs.Wanted.{HasItsPlace}

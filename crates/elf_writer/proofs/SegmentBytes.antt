@@ -2,9 +2,10 @@
 use Rattle.std.proofs.Common.{◌≡◌, ℕ, ◌+◌, ◌-◌, ◌*◌, ◌%◌, ◌&&◌, Bool, true, false, cond, ltb, List, [], ◌∷◌, ◌++◌, length, map, take, drop, replicate, refl, ap, sym, ◌∙◌, append_assoc, append-nil, arith}
 use Rattle.std.specs.List.{AllByRecursion}
 use Rattle.std.proofs.lemmas.List.{take_at, take_all, drop_at, drop-drop}
-use Rattle.elf_image.specs.declared.image.Segment.{Segment}
-use Rattle.elf_image.specs.declared.perm.Perm.{Perm}
-use Rattle.elf_image.specs.Pages.{has, first_page, file_end_page, window, zeroed_from, page_bytes}
+use Rattle.image.specs.declared.image.Segment.{Segment}
+use Rattle.image.specs.declared.perm.Perm.{Perm}
+use Rattle.image.specs.Addresses.{has}
+use Rattle.elf_image.specs.Pages.{first_page, file_end_page, window, zeroed_from, page_bytes}
 use Rattle.elf_image.specs.Image.{segment_of}
 use Rattle.elf_writer.specs.Wanted.{HasItsPlace}
 use Rattle.elf_writer.specs.Written.{header_for, headers_for, data_of}

@@ -4,11 +4,11 @@ use Rattle.std.specs.List.{list_any, AllByRecursion}
 use Rattle.std.proofs.lemmas.Bool.{le-ltb, lt-ltb, le-leb, ltb-true, leb-true, ne_eqb, and_parts, or_cases, or_left, or_right, false≢true}
 use Rattle.std.proofs.lemmas.Bool.Decides.{nat_tests}
 use Rattle.elf_image.specs.declared.header.ProgramHeader.{ProgramHeader}
-use Rattle.elf_image.specs.declared.image.Segment.{Segment}
+use Rattle.image.specs.declared.image.Segment.{Segment}
 use Rattle.elf_image.specs.declared.refusal.Room.TheVariants.{Any}
 use Rattle.elf_image.specs.Pages.{is_segment}
-use Rattle.elf_image.specs.Refusals.{room_end, is_dynamic, past_file, is_too_small, is_misaligned, is_forbidden, is_out_of_room, shares_page, any_shares_page, can_run, has_address}
-use Rattle.elf_image.specs.Image.{holds}
+use Rattle.elf_image.specs.Refusals.{room_end, is_dynamic, past_file, is_too_small, is_misaligned, is_forbidden, is_out_of_room, shares_page, any_shares_page, has_code, has_address}
+use Rattle.image.specs.Addresses.{holds}
 use Rattle.elf_writer.specs.Wanted.{HasItsPlace, segment_end, meets, NoneMeet, runs, runs_at}
 use Rattle.elf_writer.specs.Written.{header_for, headers_for, data_of}
 
@@ -83,7 +83,7 @@ holds_page offset a s e =
     let to : a < s.start + s.size = ltb-true a (s.start + s.size) parts.1 in
     rw (le-leb (s.start / 4096) (a / 4096) (omega arith), lt-ltb (a / 4096) ((s.start + s.size + 4095) / 4096) (omega arith)) refl
 
-pub entry_can_run : (offset a : ℕ) (ss : List Segment) → list_any (runs_at a) ss ≡ true → list_any (has_address a) (filter can_run (headers_for offset ss)) ≡ true
+pub entry_can_run : (offset a : ℕ) (ss : List Segment) → list_any (runs_at a) ss ≡ true → list_any (has_address a) (filter has_code (headers_for offset ss)) ≡ true
 entry_can_run offset a [] e = e
 entry_can_run offset a (s ∷ ss) e = step (runs s) (holds a s) _ _ (holds_page offset a s) (entry_can_run (offset + length s.bytes) a ss) e
   where

@@ -4,9 +4,9 @@ use Rattle.std.specs.Prelude.{max, min}
 use Rattle.std.specs.List.{AllByRecursion, sum_by}
 use Rattle.std.proofs.lemmas.List.Sums.{sum-map, sum_by-cons}
 use Rattle.elf_image.specs.declared.header.ProgramHeader.{ProgramHeader}
-use Rattle.elf_image.specs.declared.image.Segment.{Segment}
+use Rattle.image.specs.declared.image.Segment.{Segment}
 use Rattle.elf_image.specs.Pages.{first_page, end_page}
-use Rattle.elf_image.specs.Refusals.{can_run, greatest, least, code_span, pages_size}
+use Rattle.elf_image.specs.Refusals.{has_code, greatest, least, code_span, pages_size}
 use Rattle.elf_writer.specs.Wanted.{HasItsPlace, segment_end, runs, run_span}
 use Rattle.elf_writer.specs.Written.{header_for, headers_for, data_of}
 
@@ -18,7 +18,7 @@ page_start s = s.start / 4096
 
 -- what is said of the headers that can be run, as of the segments that can
 kept_alike : (f : ProgramHeader → ℕ) (g : Segment → ℕ) → ((offset : ℕ) (s : Segment) → f (header_for offset s) ≡ g s) → (offset : ℕ) (ss : List Segment)
-    → map f (filter can_run (headers_for offset ss)) ≡ map g (filter runs ss)
+    → map f (filter has_code (headers_for offset ss)) ≡ map g (filter runs ss)
 kept_alike f g same offset [] = refl
 kept_alike f g same offset (s ∷ ss) = step (runs s) _ _ (kept_alike f g same (offset + length s.bytes) ss)
   where
@@ -60,8 +60,8 @@ least_in_pages (s ∷ t ∷ ss) each =
 
 pub code_span_is : (offset : ℕ) (ss : List Segment) → AllByRecursion HasItsPlace ss → code_span (headers_for offset ss) ≡ run_span ss
 code_span_is offset ss each =
-    let ends : map end_page (filter can_run (headers_for offset ss)) ≡ map page_end (filter runs ss) = kept_alike end_page page_end (λ o s. refl) offset ss in
-    let starts : map first_page (filter can_run (headers_for offset ss)) ≡ map page_start (filter runs ss) = kept_alike first_page page_start (λ o s. refl) offset ss in
+    let ends : map end_page (filter has_code (headers_for offset ss)) ≡ map page_end (filter runs ss) = kept_alike end_page page_end (λ o s. refl) offset ss in
+    let starts : map first_page (filter has_code (headers_for offset ss)) ≡ map page_start (filter runs ss) = kept_alike first_page page_start (λ o s. refl) offset ss in
     let kept = kept_each ss each in
     rw (ends, starts) (scaled _ _ _ _ (greatest_in_pages (filter runs ss) kept) (least_in_pages (filter runs ss) kept))
   where

@@ -3,8 +3,9 @@ use Rattle.std.proofs.Common.{◌≡◌, ℕ, suc, ◌+◌, ◌*◌, ◌<◌, Li
 use Rattle.std.specs.List.{flat_map, AllByRecursion}
 use Rattle.std.proofs.lemmas.List.{get_or-drop, drop-drop, drop_at}
 use Rattle.elf_image.specs.declared.header.ProgramHeader.{ProgramHeader}
-use Rattle.elf_image.specs.declared.image.Segment.{Segment}
-use Rattle.elf_image.specs.Fields.{word_at, header_at, headers_from}
+use Rattle.image.specs.declared.image.Segment.{Segment}
+use Rattle.byte_lists.specs.LittleEndian.{word_at}
+use Rattle.elf_image.specs.Fields.{header_at, headers_from}
 use Rattle.elf_writer.specs.Wanted.{HasItsPlace}
 use Rattle.elf_writer.specs.Written.{header_bytes, header_for, headers_for, table_bytes, data_of}
 use Rattle.elf_writer.proofs.HeaderFields.{word_again}

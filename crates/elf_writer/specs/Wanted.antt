@@ -1,12 +1,12 @@
 -- What the wide room wants of an image, in terms of its segments and its entry.
 use Rattle.std.specs.Prelude.{◌≡◌, ℕ, ◌+◌, ◌-◌, ◌%◌, ◌<◌, ◌≤◌, ◌&&◌, Bool, true, false, ltb, List, [], ◌∷◌, length, map, filter}
 use Rattle.std.specs.List.{AllByRecursion, list_any, sum_by}
-use Rattle.elf_image.specs.declared.image.Segment.{Segment}
-use Rattle.elf_image.specs.declared.image.Image.{Image}
+use Rattle.image.specs.declared.image.Segment.{Segment}
+use Rattle.image.specs.declared.image.Image.{Image}
 use Rattle.elf_image.specs.declared.refusal.Room.TheVariants.{Any}
-use Rattle.elf_image.specs.Pages.{has}
+use Rattle.image.specs.Addresses.{has}
 use Rattle.elf_image.specs.Refusals.{room_end, room_span, room_size, greatest, least}
-use Rattle.elf_image.specs.Image.{holds}
+use Rattle.image.specs.Addresses.{holds}
 
 abbrev pub image_with : List Segment → ℕ → Image
 image_with segments entry = record { segments = segments; entry = entry }

@@ -3,8 +3,8 @@
 use Rattle.std.specs.Prelude.{ℕ, ◌+◌, ◌-◌, ◌*◌, ◌/◌, List, [], ◌∷◌, ◌++◌, length}
 use Rattle.std.specs.List.{flat_map}
 use Rattle.elf_image.specs.declared.header.ProgramHeader.{ProgramHeader}
-use Rattle.elf_image.specs.declared.image.Segment.{Segment}
-use Rattle.elf_image.specs.Rows.{half, word, zeros}
+use Rattle.image.specs.declared.image.Segment.{Segment}
+use Rattle.byte_lists.specs.LittleEndian.{half_bytes, word_bytes, zeros}
 
 -- 7F 45 4C 46, then ELFCLASS32, ELFDATA2LSB, EV_CURRENT and zeros
 abbrev pub ident : List ℕ
@@ -13,11 +13,11 @@ ident = 0x7F ∷ 0x45 ∷ 0x4C ∷ 0x46 ∷ 1 ∷ 1 ∷ 1 ∷ 0 ∷ 0 ∷ 0 ∷ 
 -- ET_EXEC, EM_386, EV_CURRENT, the entry, the program headers at 52, no sections, no flags
 unfoldable pub elf_header : ℕ → ℕ → List ℕ
 elf_header entry count =
-    ident ++ half 2 ++ half 3 ++ word 1 ++ word entry ++ word 52 ++ word 0 ++ word 0 ++ half 52 ++ half 32 ++ half count ++ half 0 ++ half 0 ++ half 0
+    ident ++ half_bytes 2 ++ half_bytes 3 ++ word_bytes 1 ++ word_bytes entry ++ word_bytes 52 ++ word_bytes 0 ++ word_bytes 0 ++ half_bytes 52 ++ half_bytes 32 ++ half_bytes count ++ half_bytes 0 ++ half_bytes 0 ++ half_bytes 0
 
 -- p_type, p_offset, p_vaddr, p_paddr (the same), p_filesz, p_memsz, p_flags, p_align (a page)
 unfoldable pub header_bytes : ProgramHeader → List ℕ
-header_bytes h = word h.kind ++ word h.offset ++ word h.address ++ word h.address ++ word h.file_size ++ word h.memory_size ++ word h.flags ++ word 4096
+header_bytes h = word_bytes h.kind ++ word_bytes h.offset ++ word_bytes h.address ++ word_bytes h.address ++ word_bytes h.file_size ++ word_bytes h.memory_size ++ word_bytes h.flags ++ word_bytes 4096
 
 -- the header of a segment (PT_LOAD) whose bytes stand at an offset
 abbrev pub header_for : ℕ → Segment → ProgramHeader

@@ -2,8 +2,9 @@
 ghost use Rattle.std.specs.Prelude.{◌≡◌, ◌<◌, ◌+◌, ◌++◌, length, OnOk};
 ghost use Rattle.elf_writer.specs.Written.{elf_header, header_bytes, header_for, table_bytes, data_of};
 
-use crate::bytes::{push_halves, push_words};
-use elf_image::{ProgramHeader, Segment};
+use byte_lists::{push_halves, push_words};
+use elf_image::ProgramHeader;
+use image::Segment;
 use std::alloc::AllocError;
 
 /// The magic, then 32 bits, lowest byte first, version 1 (gABI, "ELF Identification").

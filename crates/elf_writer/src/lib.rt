@@ -1,7 +1,6 @@
 //! Writing an image as an executable file (System V gABI, "ELF Header", "Program Header").
 #![tactic(auto)]
 
-mod bytes;
 mod header;
 mod laws;
 #[cfg(test)]

@@ -3,10 +3,11 @@ ghost use Rattle.std.specs.Prelude.{IfOk};
 ghost use Rattle.elf_writer.specs.Wanted.{CanBeWritten};
 
 use crate::write_image;
-use elf_image::{Perm, Room, Segment, SegmentList, read_image};
+use byte_lists::ByteList;
+use elf_image::{Room, read_image};
+use image::{Perm, Segment, SegmentList};
 use std::alloc::{AllocError, Global};
 use std::test::Fail;
-use x86_values::ByteList;
 
 // The headers of an image with one page of code and one page of zeros.
 const HEADERS: [u8; 116] = [

@@ -5,9 +5,9 @@ ghost use Rattle.elf_image.specs.Image.{image_of};
 ghost use Rattle.elf_writer.specs.Wanted.{CanBeWritten, image_with};
 ghost use Rattle.elf_writer.specs.Written.{data_of, written};
 
-use crate::bytes::push_zeros;
 use crate::header::{push_elf_header, push_table};
-use elf_image::{Segment, SegmentList};
+use byte_lists::push_zeros;
+use image::{Segment, SegmentList};
 use std::alloc::{AllocError, Global};
 
 /// The file with these segments, which begins to run at the entry. Its program headers stand in the order of the

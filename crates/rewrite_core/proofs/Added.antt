@@ -2,13 +2,14 @@
 use Rattle.std.proofs.Common.{◌≡◌, ◌⊎◌, ℕ, zero, suc, ◌+◌, ◌-◌, ◌<◌, ◌≤◌, ◌==◌, ◌&&◌, ◌||◌, min, Bool, true, false, cond, leb, List, Option, Some, None, refl, sym, ap, subst, ◌∙◌, inl, inr, ⊎_elim, arith}
 use Rattle.std.proofs.lemmas.Bool.{and_parts}
 use Rattle.std.proofs.lemmas.Bool.Decides.{leb_tells}
-use Rattle.x86_values.specs.declared.answer.Answer.{Answer}
-use Rattle.x86_values.specs.declared.answer.Answer.TheVariants.{Take, Fail}
+use Rattle.outside.specs.declared.answer.Answer.{Answer}
+use Rattle.outside.specs.declared.answer.Answer.TheVariants.{Take, Fail}
 use Rattle.x86_values.specs.Words.{known, known_byte}
 use Rattle.traces.specs.Trace.{Label, End}
 use Rattle.traces.specs.Agree.{outside}
 use Rattle.x86_meaning.specs.Memory.{Place, Memory, can, can_all, known_all, put_all, forget_below, stack_start, with_stack, kind_of, SameOutside, IsApart}
-use Rattle.x86_meaning.specs.SystemCall.{Request, Environment, Called, Ends, Gives, Plan, Refused, Stops, Asks, cap, error, EBADF, EFAULT, next_answer, passes, read_plan, asks_known, write_plan, read_by, write_by, reads, writes, read_call, write_call, exit_call, transfer, call_by, system_call}
+use Rattle.outside.specs.Environment.{Environment, cap, next_answer}
+use Rattle.x86_meaning.specs.SystemCall.{Request, Called, Ends, Gives, Plan, Refused, Stops, Asks, error, EBADF, EFAULT, passes, read_plan, asks_known, write_plan, read_by, write_by, reads, writes, read_call, write_call, exit_call, transfer, call_by, system_call}
 use Rattle.rewrite_core.specs.Agreement.{IsAdded}
 use Rattle.rewrite_core.proofs.LawsBelow.{MemoryLaws}
 

@@ -4,11 +4,11 @@ use Rattle.std.proofs.lemmas.List.{length-take-le}
 use Rattle.std.proofs.lemmas.List.Elements.{All-take, All-drop}
 use Rattle.std.proofs.lemmas.Bool.{and_parts, eqb-true}
 use Rattle.std.proofs.lemmas.Bool.Decides.{nat_tests}
-use Rattle.elf_image.specs.declared.image.Segment.{Segment}
-use Rattle.elf_image.specs.Image.{holds, segment_at}
+use Rattle.image.specs.declared.image.Segment.{Segment}
+use Rattle.image.specs.Addresses.{holds, segment_at}
 use Rattle.elf_image.specs.Plain.{is_plain, plain_image, text_segment, room_segment}
 use Rattle.x86_meaning.specs.Memory.{Place, Memory, place_in, memory_of, stack_start}
-use Rattle.x86_meaning.specs.SystemCall.{Environment}
+use Rattle.outside.specs.Environment.{Environment}
 use Rattle.x86_meaning.specs.Run.{IsStart, code_of, start_over}
 use Rattle.rewrite_core.specs.Met.{IsApart, IsRewritable}
 use Rattle.rewrite_core.specs.Places.{page_start, IsLaid}

@@ -3,8 +3,8 @@ use Rattle.std.proofs.Common.{◌≡◌, ◌⊎◌, ℕ, zero, suc, ◌+◌, ◌
 use Rattle.std.proofs.lemmas.List.{length-replicate, length-take-le, take-take, take-replicate, drop-append-le, take-append-le, drop_all, get_or-take, get_or_append_left}
 use Rattle.std.proofs.Math.Seq.{take-append-add}
 use Rattle.std.proofs.lemmas.Bool.Decides.{nat_tests}
-use Rattle.elf_image.specs.declared.image.Segment.{Segment}
-use Rattle.elf_image.specs.Image.{holds, segment_at, code_byte_in, code_byte_at, code_bytes, then_code}
+use Rattle.image.specs.declared.image.Segment.{Segment}
+use Rattle.image.specs.Addresses.{holds, segment_at, code_byte_in, code_byte_at, code_bytes, then_code}
 use Rattle.elf_image.specs.Plain.{room_segment}
 use Rattle.rewrite_core.specs.Places.{stop}
 use Rattle.rewrite_core.specs.Layout.{code_start, whole_pages, in_pages, kept_segment, code_segment, new_image, NewCodeIsThere, NewCodeIsAll, NewCodeIsInPages, row_list, row_text, RowIsWritten}

@@ -7,7 +7,7 @@ use Rattle.elf_image.specs.Plain.{plain_image}
 use Rattle.x86_types.specs.declared.instr.Instr.TheVariants.{Jmp}
 use Rattle.x86_meaning.specs.Spells.{front}
 use Rattle.x86_meaning.specs.Memory.{Memory, forget_below}
-use Rattle.x86_meaning.specs.SystemCall.{Environment}
+use Rattle.outside.specs.Environment.{Environment}
 use Rattle.x86_meaning.specs.Step.{State, Code, settled, settled_by, step, step_at, next}
 use Rattle.x86_meaning.specs.Run.{IsStart, first_cpu, start_over, run_from, code_of}
 use Rattle.rewrite_core.specs.Places.{page_start}

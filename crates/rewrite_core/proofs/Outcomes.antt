@@ -2,8 +2,8 @@
 use Rattle.std.proofs.Common.{◌≡◌, ℕ, ◌==◌, ◌&&◌, Bool, true, false, List, length, drop, get_or, min, Option, Some, None, Ok, Err, refl, sym, ◌∙◌, inl, inr, arith, length-drop, length-take}
 use Rattle.std.proofs.lemmas.Bool.{true≢false}
 use Rattle.std.proofs.lemmas.Bool.Decides.{eqb_tells}
-use Rattle.elf_image.specs.declared.image.Image.{Image}
-use Rattle.elf_image.specs.declared.image.Segment.{Segment}
+use Rattle.image.specs.declared.image.Image.{Image}
+use Rattle.image.specs.declared.image.Segment.{Segment}
 use Rattle.elf_image.specs.declared.refusal.Refusal.{Refusal}
 use Rattle.elf_image.specs.declared.refusal.Refusal.TheVariants.{NotYet}
 use Rattle.elf_image.specs.declared.refusal.Room.TheVariants.{Source}

@@ -4,8 +4,8 @@ use Rattle.std.proofs.Math.Seq.{drop-cons}
 use Rattle.std.proofs.lemmas.List.{drop_all}
 use Rattle.std.proofs.lemmas.Bool.{le-leb}
 use Rattle.std.proofs.lemmas.Bool.Decides.{nat_tests}
-use Rattle.elf_image.specs.declared.image.Image.{Image}
-use Rattle.elf_image.specs.Image.{segment_at, holds, code_byte_in, code_byte_at, code_bytes, then_code}
+use Rattle.image.specs.declared.image.Image.{Image}
+use Rattle.image.specs.Addresses.{segment_at, holds, code_byte_in, code_byte_at, code_bytes, then_code}
 use Rattle.elf_image.specs.Plain.{plain_image, text_segment, room_segment}
 use Rattle.x86_meaning.specs.Spells.{front}
 use Rattle.x86_meaning.specs.Run.{code_of}

@@ -1,11 +1,12 @@
 -- When the run of a written file does what the run of the old file did.
 use Rattle.std.specs.Prelude.{◌≡◌, ℕ, ◌+◌, ◌<◌, ◌≤◌, List, ◌∷◌, length, All, None}
 use Rattle.traces.specs.Plain.{AgreePlainly, NeverEnds}
-use Rattle.elf_image.specs.declared.image.Image.{Image}
+use Rattle.image.specs.declared.image.Image.{Image}
 use Rattle.elf_image.specs.Plain.{plain_image}
 use Rattle.x86_meaning.specs.Memory.{Memory, SameOutside}
-use Rattle.x86_meaning.specs.SystemCall.{Environment}
-use Rattle.x86_meaning.specs.Run.{IsStart, IsEnvironment, code_of, start_over, run_from, run_of}
+use Rattle.outside.specs.Environment.{Environment}
+use Rattle.outside.specs.Environment.{IsEnvironment}
+use Rattle.x86_meaning.specs.Run.{IsStart, code_of, start_over, run_from, run_of}
 use Rattle.rewrite_core.specs.Met.{IsRewritable}
 use Rattle.rewrite_core.specs.Places.{IsLaid}
 use Rattle.rewrite_core.specs.Layout.{code_start, whole_pages, new_image, text_of}

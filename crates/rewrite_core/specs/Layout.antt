@@ -1,9 +1,10 @@
 -- The written file: that of an image of the old page of code, the page of zeros, and the new code.
 use Rattle.std.specs.Prelude.{◌≡◌, ◌⊎◌, ℕ, ◌+◌, ◌*◌, ◌/◌, ◌<◌, ◌≤◌, List, [], ◌∷◌, ◌++◌, length, take, drop, replicate, slice_index, Some, None, Ok}
-use Rattle.elf_image.specs.declared.image.Segment.{Segment}
-use Rattle.elf_image.specs.declared.image.Image.{Image}
+use Rattle.image.specs.declared.image.Segment.{Segment}
+use Rattle.image.specs.declared.image.Image.{Image}
 use Rattle.elf_image.specs.declared.refusal.Room.TheVariants.{Any}
-use Rattle.elf_image.specs.Image.{image_of, code_byte_at, code_bytes}
+use Rattle.image.specs.Addresses.{code_byte_at, code_bytes}
+use Rattle.elf_image.specs.Image.{image_of}
 use Rattle.elf_image.specs.Plain.{room_segment}
 use Rattle.elf_writer.specs.Written.{written}
 use Rattle.rewrite_core.specs.Places.{stop}

@@ -1,7 +1,7 @@
 -- The places that a run can meet, and which files are rewritten so far.
 use Rattle.std.specs.Prelude.{◌≡◌, ◌⊎◌, ℕ, ◌+◌, ◌%◌, ◌<◌, ◌≤◌, ◌==◌, ◌&&◌, ◌||◌, Bool, true, leb, List, Some}
-use Rattle.elf_image.specs.declared.image.Image.{Image}
-use Rattle.elf_image.specs.Image.{code_byte_at}
+use Rattle.image.specs.declared.image.Image.{Image}
+use Rattle.image.specs.Addresses.{code_byte_at}
 use Rattle.elf_image.specs.Fields.{has_magic}
 use Rattle.elf_image.specs.Plain.{is_plain, plain_image}
 use Rattle.x86_types.specs.declared.operand.Reg.{Reg}

@@ -4,10 +4,10 @@ ghost use Rattle.elf_image.specs.declared.refusal.Room.TheVariants.{Any};
 ghost use Rattle.elf_image.specs.Image.{image_of};
 ghost use Rattle.rewrite_core.specs.Layout.{in_pages, new_file, new_image};
 
-use elf_image::{Perm, Segment, SegmentList};
+use byte_lists::ByteList;
 use elf_writer::write_image;
+use image::{Perm, Segment, SegmentList};
 use std::alloc::{AllocError, Global};
-use x86_values::ByteList;
 
 /// Where the new code stands, and the run begins.
 const CODE_START: u32 = 0x6000_0000;

@@ -4,10 +4,10 @@ ghost use Rattle.rewrite_core.specs.Rewrites.{Rewrites};
 use crate::laws::agreement_laws;
 use crate::lay::lay;
 use crate::layout::write_file;
+use byte_lists::ByteList;
 use elf_image::{ImageError, Refusal, Room, image_laws, is_plain, read_image};
 use std::alloc::{AllocError, Global};
 use thiserror::Error;
-use x86_values::ByteList;
 
 /// A rewritten file.
 #[derive(Debug, Drop)]

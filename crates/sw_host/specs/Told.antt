@@ -3,7 +3,7 @@ use Rattle.std.specs.Prelude.{◌≡◌, ℕ, ◌+◌, ◌-◌, ◌^◌, ◌≤�
 use Rattle.std.specs.Ordering.{nat_cmp}
 use Rattle.std.specs.Cmp.Lexicographic.{slice_cmp}
 use Rattle.std.specs.FinMap.{FinMap}
-use Rattle.x86_values.specs.declared.answer.Answer.{Answer}
+use Rattle.outside.specs.declared.answer.Answer.{Answer}
 use Rattle.sw_host.specs.declared.host.HostFault.{HostFault}
 use Rattle.sw_host.specs.declared.host.HostFault.TheVariants.{Failed, Memory}
 

@@ -1,9 +1,9 @@
 // A list of lines that contracts see as a list of texts.
 ghost use Rattle.std.specs.Prelude.{◌≡◌, ◌==◌, [], ◌∷◌, ◌++◌, length, OnOk, OnErr};
 
+use byte_lists::ByteList;
 use std::alloc::AllocError;
 use std::marker::Model;
-use x86_values::ByteList;
 
 /// A list of lines, each the bytes of its text. It is made from a `Vec` and gives it back, both
 /// without taking memory.

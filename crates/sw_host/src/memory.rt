@@ -9,8 +9,8 @@ ghost use Rattle.sw_host.specs.Memory.{told_by, faults_of, nothing_told, with_fa
 ghost use Rattle.sw_host.specs.Memory.{files_of, find_file, fails_at};
 
 use crate::{Host, HostFault, LineList};
+use byte_lists::ByteList;
 use std::alloc::{AllocError, Global};
-use x86_values::ByteList;
 
 #[derive(Drop)]
 struct File {

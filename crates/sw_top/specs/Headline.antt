@@ -1,7 +1,7 @@
 -- What a rewriting that is done means, in terms of files and their runs.
 use Rattle.std.specs.Prelude.{◌≡◌, ◌≢◌, ℕ, List, Some, Ok}
 use Rattle.std.specs.FinMap.{get}
-use Rattle.elf_image.specs.declared.image.Image.{Image}
+use Rattle.image.specs.declared.image.Image.{Image}
 use Rattle.elf_image.specs.declared.refusal.Room.TheVariants.{Source, Any}
 use Rattle.elf_image.specs.Image.{image_of}
 use Rattle.rewrite_core.specs.Agreement.{RunsAgree}

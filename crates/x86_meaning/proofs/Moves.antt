@@ -1,7 +1,7 @@
 -- What each move of the machine shows, and how it ends.
 use Rattle.std.proofs.Common.{◌≡◌, ℕ, ◌≢◌, Bool, true, false, cond, List, [], Option, Some, None, refl, sym, subst, ◌==◌}
-use Rattle.x86_values.specs.declared.answer.Answer.{Answer}
-use Rattle.x86_values.specs.declared.answer.Answer.TheVariants.{Take, Fail}
+use Rattle.outside.specs.declared.answer.Answer.{Answer}
+use Rattle.outside.specs.declared.answer.Answer.TheVariants.{Take, Fail}
 use Rattle.x86_values.specs.Words.{known, known_byte}
 use Rattle.traces.specs.Trace.{Label, End, Guard, Stopped, GuardKind, Move, Stand, Go, Halt, Grows, turns}
 use Rattle.traces.specs.Turns.{Paced, Ticks}
@@ -12,7 +12,8 @@ use Rattle.x86_types.specs.declared.instr.Instr.{Instr}
 use Rattle.x86_meaning.proofs.Built.{Built, moves, jumps, calls, other, built}
 use Rattle.x86_meaning.specs.declared.state.Cpu.{Cpu}
 use Rattle.x86_meaning.specs.Memory.{Memory}
-use Rattle.x86_meaning.specs.SystemCall.{Request, Environment, Called, Ends, Gives, Plan, Refused, Stops, Asks, read_plan, write_plan, read_by, write_by, reads, writes, read_call, write_call, exit_call, transfer, call_by, system_call, next_answer}
+use Rattle.outside.specs.Environment.{Environment, next_answer}
+use Rattle.x86_meaning.specs.SystemCall.{Request, Called, Ends, Gives, Plan, Refused, Stops, Asks, read_plan, write_plan, read_by, write_by, reads, writes, read_call, write_call, exit_call, transfer, call_by, system_call}
 use Rattle.x86_meaning.specs.Step.{State, Code, reg_at, settled_by, settled, after_call, step, step_at, next}
 use Rattle.x86_meaning.specs.Run.{run_from}
 

@@ -4,7 +4,7 @@ use Rattle.std.proofs.lemmas.Bool.{and_parts, ltb-true}
 use Rattle.std.proofs.lemmas.List.Elements.{All-nil, All-cons}
 use Rattle.x86_values.specs.Words.{word_of, known}
 use Rattle.traces.specs.Trace.{run}
-use Rattle.elf_image.specs.Image.{segment_at, code_bytes}
+use Rattle.image.specs.Addresses.{segment_at, code_bytes}
 use Rattle.x86_meaning.specs.Spells.{front}
 use Rattle.x86_meaning.specs.Memory.{Memory, put, put_all, can_all, known_all, forget_below, memory_of, with_stack}
 use Rattle.x86_meaning.specs.SystemCall.{read_call, write_call, system_call}

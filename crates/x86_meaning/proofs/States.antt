@@ -4,17 +4,18 @@ use Rattle.std.specs.Option.{option_map}
 use Rattle.std.proofs.lemmas.Bool.{lt-ltb}
 use Rattle.x86_values.specs.declared.byte.Byte.{Byte}
 use Rattle.x86_values.specs.declared.byte.Byte.TheVariants.{Unspecified}
-use Rattle.x86_values.specs.declared.answer.Answer.{Answer}
-use Rattle.x86_values.specs.declared.answer.Answer.TheVariants.{Take, Fail}
+use Rattle.outside.specs.declared.answer.Answer.{Answer}
+use Rattle.outside.specs.declared.answer.Answer.TheVariants.{Take, Fail}
 use Rattle.x86_values.specs.Words.{word_of, known, known_byte}
 use Rattle.traces.specs.Trace.{Label, Move, Stand, Go, Halt}
-use Rattle.elf_image.specs.declared.image.Segment.{Segment}
-use Rattle.elf_image.specs.Image.{segment_at}
+use Rattle.image.specs.declared.image.Segment.{Segment}
+use Rattle.image.specs.Addresses.{segment_at}
 use Rattle.x86_types.specs.declared.instr.Instr.{Instr}
 use Rattle.x86_meaning.proofs.Built.{Built, moves, jumps, calls, other, built}
 use Rattle.x86_meaning.specs.declared.state.Cpu.{Cpu}
 use Rattle.x86_meaning.specs.Memory.{Place, Memory, known_all, forgotten, forget_below, place_in, memory_of, with_stack, kind_of, SameOutside, IsApart}
-use Rattle.x86_meaning.specs.SystemCall.{Request, Environment, Called, Ends, Gives, cap, error, EBADF, EFAULT, passes, Plan, Refused, Stops, Asks, asks_known, read_plan, write_plan, read_by, write_by, reads, writes, read_call, write_call, exit_call, transfer, call_by, system_call, next_answer}
+use Rattle.outside.specs.Environment.{Environment, cap, next_answer}
+use Rattle.x86_meaning.specs.SystemCall.{Request, Called, Ends, Gives, error, EBADF, EFAULT, passes, Plan, Refused, Stops, Asks, asks_known, read_plan, write_plan, read_by, write_by, reads, writes, read_call, write_call, exit_call, transfer, call_by, system_call}
 use Rattle.x86_meaning.specs.Step.{State, Code, reg_at, settled_by, settled, after_call, step, step_at, next}
 use Rattle.x86_meaning.specs.Run.{start_over}
 use Rattle.x86_meaning.specs.StateLaws.{IsForgotten, StartIsForgotten, StepForgets, StepKeepsKinds, SameCalled, CallApart}

@@ -3,8 +3,8 @@ use Rattle.std.specs.Prelude.{◌≡◌, ◌↔◌, ℕ, ◌<◌, ◌≤◌, Lis
 use Rattle.traces.specs.Trace.{GuardKind, Guard, Grows}
 use Rattle.traces.specs.Turns.{Paced, Ticks}
 use Rattle.traces.specs.Plain.{NeverStops}
-use Rattle.elf_image.specs.declared.image.Image.{Image}
-use Rattle.elf_image.specs.Image.{code_bytes}
+use Rattle.image.specs.declared.image.Image.{Image}
+use Rattle.image.specs.Addresses.{code_bytes}
 use Rattle.x86_types.specs.declared.instr.Instr.{Instr}
 use Rattle.x86_grammar.specs.Spells.{Spells as SpellsWhole}
 use Rattle.x86_meaning.specs.Spells.{Spells, FrontSpells, front}

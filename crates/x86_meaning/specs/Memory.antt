@@ -4,10 +4,10 @@ use Rattle.std.specs.Option.{option_map}
 use Rattle.x86_values.specs.declared.byte.Byte.{Byte}
 use Rattle.x86_values.specs.declared.byte.Byte.TheVariants.{Known, Unspecified}
 use Rattle.x86_values.specs.Words.{known_byte}
-use Rattle.elf_image.specs.declared.image.Segment.{Segment}
-use Rattle.elf_image.specs.declared.image.Image.{Image}
-use Rattle.elf_image.specs.Pages.{has}
-use Rattle.elf_image.specs.Image.{segment_at, byte_in}
+use Rattle.image.specs.declared.image.Segment.{Segment}
+use Rattle.image.specs.declared.image.Image.{Image}
+use Rattle.image.specs.Addresses.{has}
+use Rattle.image.specs.Addresses.{segment_at, byte_in}
 
 -- a mapped byte can be read; on the stack it becomes unspecified where esp rises past it
 pub record Place : Type 0 where

@@ -2,10 +2,10 @@
 use Rattle.std.specs.Prelude.{◌≡◌, ℕ, zero, suc, ◌^◌, ◌-◌, true, false, List, [], ◌∷◌, ◌++◌, replicate, Option, Some, None}
 use Rattle.std.specs.Option.{option_map}
 use Rattle.x86_values.specs.declared.byte.Byte.TheVariants.{Known}
-use Rattle.x86_values.specs.declared.answer.Answer.{Answer}
-use Rattle.x86_values.specs.declared.answer.Answer.TheVariants.{Take, Fail}
+use Rattle.outside.specs.declared.answer.Answer.{Answer}
+use Rattle.outside.specs.declared.answer.Answer.TheVariants.{Take, Fail}
 use Rattle.traces.specs.Trace.{Event, Read, Write, End, Exited, Outside, OtherCall, Unspecified, Behaviour, events, Move, Stand, Go, Halt}
-use Rattle.elf_image.specs.declared.image.Image.{Image}
+use Rattle.image.specs.declared.image.Image.{Image}
 use Rattle.x86_meaning.specs.Step.{State, Code, next}
 use Rattle.x86_meaning.specs.Run.{code_of, start_of, run_of, IsStart}
 

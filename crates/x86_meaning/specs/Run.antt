@@ -1,17 +1,17 @@
 -- Runs of programs. The instructions and the memory that a run begins with are two things.
 use Rattle.std.specs.Prelude.{◌≡◌, ℕ, ◌+◌, ◌%◌, ◌^◌, ◌<◌, ◌≤◌, List, [], ◌∷◌, length, All, None}
-use Rattle.x86_values.specs.declared.answer.Answer.{Answer}
-use Rattle.x86_values.specs.declared.answer.Answer.TheVariants.{Take, Fail}
+use Rattle.outside.specs.declared.answer.Answer.{Answer}
+use Rattle.outside.specs.declared.answer.Answer.TheVariants.{Take, Fail}
 use Rattle.x86_values.specs.declared.word.Flags.{Flags}
 use Rattle.x86_values.specs.Words.{word_of}
 use Rattle.traces.specs.Trace.{Behaviour, run}
 use Rattle.traces.specs.Machines.{turned}
-use Rattle.elf_image.specs.declared.image.Image.{Image}
-use Rattle.elf_image.specs.Image.{code_bytes}
+use Rattle.image.specs.declared.image.Image.{Image}
+use Rattle.image.specs.Addresses.{code_bytes}
 use Rattle.x86_meaning.specs.declared.state.Cpu.{Cpu}
 use Rattle.x86_meaning.specs.Spells.{front}
 use Rattle.x86_meaning.specs.Memory.{Memory, memory_of, with_stack}
-use Rattle.x86_meaning.specs.SystemCall.{Environment}
+use Rattle.outside.specs.Environment.{Environment}
 use Rattle.x86_meaning.specs.Step.{State, Code, next}
 
 -- what stands at each address of an image: the instruction that a front of the executable bytes from there spells
@@ -46,15 +46,6 @@ pub record IsStart (esp0 : ℕ) (stack : List ℕ) : Type 0 where
   pub at_most : length stack ≤ 131072
   pub bytes : All (λ b. b < 256) stack
   pub within : esp0 + length stack ≤ 0xFFFFE000
-
-abbrev pub IsAnswer : Answer → Type 0
-IsAnswer (Take k) = k < 2 ^ 32
-IsAnswer (Fail e) = (1 ≤ e) × (e ≤ 4095)
-
--- an input is a list of bytes, and the answers are in their ranges
-pub record IsEnvironment (left : Environment) : Type 0 where
-  pub input : All (λ b. b < 256) left.input
-  pub answers : All IsAnswer left.answers
 
 -- What is seen of the run of some instructions from a state. Each step is a turn at the address of its instruction, so a
 -- run that is cut earlier is this run with an earlier stop.

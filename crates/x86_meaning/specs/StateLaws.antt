@@ -3,9 +3,10 @@ use Rattle.std.specs.Prelude.{◌≡◌, ℕ, ◌<◌, true, List, Some}
 use Rattle.x86_values.specs.declared.byte.Byte.TheVariants.{Unspecified}
 use Rattle.x86_values.specs.Words.{known}
 use Rattle.traces.specs.Trace.{Label, Go}
-use Rattle.elf_image.specs.declared.image.Image.{Image}
+use Rattle.image.specs.declared.image.Image.{Image}
 use Rattle.x86_meaning.specs.Memory.{Place, Memory, kind_of, SameOutside, IsApart}
-use Rattle.x86_meaning.specs.SystemCall.{Request, Environment, Called, Ends, Gives, system_call}
+use Rattle.outside.specs.Environment.{Environment}
+use Rattle.x86_meaning.specs.SystemCall.{Request, Called, Ends, Gives, system_call}
 use Rattle.x86_meaning.specs.Step.{State, Code, reg_at, next}
 use Rattle.x86_meaning.specs.Run.{start_of, IsStart}
 

@@ -12,7 +12,8 @@ use Rattle.x86_types.specs.declared.instr.Instr.{Instr}
 use Rattle.x86_types.specs.declared.instr.Instr.TheVariants.{Mov, Jmp, Int80}
 use Rattle.x86_types.specs.Numbers.{number_of_reg}
 use Rattle.x86_meaning.specs.Memory.{Memory, forget_below}
-use Rattle.x86_meaning.specs.SystemCall.{Request, Environment, Called, Ends, Gives, system_call}
+use Rattle.outside.specs.Environment.{Environment}
+use Rattle.x86_meaning.specs.SystemCall.{Request, Called, Ends, Gives, system_call}
 
 pub record State : Type 0 where
   pub cpu : Cpu

@@ -2,8 +2,9 @@
 -- valid, that the whole buffer is looked at, and the cap of 65,536 bytes are own.
 use Rattle.std.specs.Prelude.{ℕ, ◌+◌, ◌-◌, ◌==◌, ◌&&◌, ◌||◌, min, Bool, true, false, cond, leb, List, [], ◌∷◌, length, take, drop, Option, Some, None}
 use Rattle.x86_values.specs.declared.word.Word.{Word}
-use Rattle.x86_values.specs.declared.answer.Answer.{Answer}
-use Rattle.x86_values.specs.declared.answer.Answer.TheVariants.{Take, Fail}
+use Rattle.outside.specs.declared.answer.Answer.{Answer}
+use Rattle.outside.specs.declared.answer.Answer.TheVariants.{Take, Fail}
+use Rattle.outside.specs.Environment.{Environment, cap, next_answer, answers_after}
 use Rattle.x86_values.specs.Words.{known, known_byte}
 use Rattle.traces.specs.Trace.{Read, Write, Label, Took, Made, End, Exited, OtherCall, Unspecified}
 use Rattle.x86_meaning.specs.Memory.{Memory, put_all, can_all, known_all}
@@ -15,19 +16,10 @@ pub record Request : Type 0 where
   pub at : Word
   pub count : Word
 
--- the outside: the input and the answers that are left
-pub record Environment : Type 0 where
-  pub input : List ℕ
-  pub answers : List Answer
-
 -- the run ends, or the call has a result and goes on
 pub data Called : Type 0 where
   Ends : (end : End) → Called
   Gives : (labels : List Label) → (result : ℕ) → (memory : Memory) → (left : Environment) → Called
-
--- the greatest number of bytes that one call moves
-abbrev pub cap : ℕ
-cap = 65536
 
 -- minus e, as a word
 abbrev pub error : ℕ → ℕ
@@ -38,15 +30,6 @@ EBADF = 9
 
 abbrev pub EFAULT : ℕ
 EFAULT = 14
-
--- the next answer, and those after it; where none is left it takes as much as one call can (own)
-abbrev pub next_answer : List Answer → Answer
-next_answer [] = Take cap
-next_answer (x ∷ xs) = x
-
-abbrev pub answers_after : List Answer → List Answer
-answers_after [] = []
-answers_after (x ∷ xs) = xs
 
 -- the whole buffer lies below 2^32 and can be written, where that is asked, or read
 abbrev pub passes : Bool → Memory → ℕ → ℕ → Bool

@@ -1,14 +1,10 @@
-//! Bytes and flags that are known or unspecified, words of four bytes, lists of bytes, and the answers of the outside.
+//! Bytes and flags that are known or unspecified, and words of four bytes.
 #![tactic(auto)]
 
-mod answer;
 mod byte;
-mod list;
 #[cfg(test)]
 mod tests;
 mod word;
 
-pub use answer::Answer;
 pub use byte::Byte;
-pub use list::ByteList;
 pub use word::{Flags, Word, known, word_of};

@@ -1,6 +1,5 @@
 // What no clause says: values that are worked by hand, and that a number's word gives the number back.
-use crate::{Byte, ByteList, Word, known, word_of};
-use std::test::Fail;
+use crate::{Byte, Word, known, word_of};
 
 #[test]
 fn has_the_lowest_byte_first(rt: HostRuntime) {
@@ -29,15 +28,4 @@ fn has_the_lowest_byte_first(rt: HostRuntime) {
         let word = Word { b0, b1, b2, b3 };
         assert_eq!(rt; known(word), None, "{word:?}");
     }
-}
-
-#[test]
-fn keeps_its_bytes(rt: HostRuntime) -> Result<(), Fail> {
-    let list = ByteList::new(Vec::from_slice(rt.alloc(), b"abc")?);
-    assert_eq!(rt; list.as_slice(), b"abc".as_slice());
-    assert_eq!(rt; (list.len(), list.is_empty()), (3, false));
-    assert_eq!(rt; list.into_vec().as_slice(), b"abc".as_slice());
-    let none = ByteList::new(Vec::new(rt.alloc()));
-    assert_eq!(rt; (none.len(), none.is_empty()), (0, true));
-    Ok(())
 }

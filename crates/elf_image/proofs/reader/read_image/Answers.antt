@@ -31,19 +31,19 @@ returns-in-Some-judged c =
     let again : c.as_slice-2.result.now ≡ headers_of file = c.as_slice-2.ensures.value ∙ c.in_ok-headers.ensures.are in
     let loaded : c.as_slice-3.result.now ≡ segments_of file = c.as_slice-3.ensures.value ∙ c.in_ok-loaded.ensures.are ∙ ap (filter is_segment) again in
     let none : list_any is_dynamic (headers_of file) ≡ false = ap (list_any is_dynamic) (sym table) ∙ sym c.if-any_dynamic.ensures in
-    let found : c.in_ok-judged.judged ≡ first (segment_tests (length file) c.word-entry.result c.args.room c.as_slice-3.result.now) = c.in_ok-judged.ensures in
-    let judged : first (segment_tests (length file) c.word-entry.result c.args.room c.as_slice-3.result.now) ≡ Some c.in-Some-judged.refusal = sym found ∙ c.in-Some-judged.is in
-    let same = ap (λ hs. first (segment_tests (length file) c.word-entry.result c.args.room hs)) loaded in
-    let at = ap (λ a. first (segment_tests (length file) a c.args.room (segments_of file))) c.word-entry.ensures in
+    let found : c.in_ok-judged.judged ≡ first (segment_tests (length file) c.word_at-entry.result c.args.room c.as_slice-3.result.now) = c.in_ok-judged.ensures in
+    let judged : first (segment_tests (length file) c.word_at-entry.result c.args.room c.as_slice-3.result.now) ≡ Some c.in-Some-judged.refusal = sym found ∙ c.in-Some-judged.is in
+    let same = ap (λ hs. first (segment_tests (length file) c.word_at-entry.result c.args.room hs)) loaded in
+    let at = ap (λ a. first (segment_tests (length file) a c.args.room (segments_of file))) c.word_at-entry.ensures in
     record { is = segments_refuse file c.args.room c.in-Some-judged.refusal (sym c.header_refusal.ensures ∙ c.in_default.is) none (sym at ∙ sym same ∙ judged) }
 
 pub segments_of-requires : goal.segments_of-requires
 segments_of-requires c =
     let file = c.args.bytes.now in
     let same : c.as_slice-4.result.now ≡ c.as_slice-3.result.now = c.as_slice-4.ensures.value ∙ sym c.as_slice-3.ensures.value in
-    let found : c.in_ok-judged.judged ≡ first (segment_tests (length file) c.word-entry.result c.args.room c.as_slice-3.result.now) = c.in_ok-judged.ensures in
-    let passed : first (segment_tests (length file) c.word-entry.result c.args.room c.as_slice-3.result.now) ≡ None = sym found ∙ c.in_default-judged.is in
-    rw same (all_in_room (length file) c.word-entry.result c.args.room c.as_slice-3.result.now passed)
+    let found : c.in_ok-judged.judged ≡ first (segment_tests (length file) c.word_at-entry.result c.args.room c.as_slice-3.result.now) = c.in_ok-judged.ensures in
+    let passed : first (segment_tests (length file) c.word_at-entry.result c.args.room c.as_slice-3.result.now) ≡ None = sym found ∙ c.in_default-judged.is in
+    rw same (all_in_room (length file) c.word_at-entry.result c.args.room c.as_slice-3.result.now passed)
 
 pub returns : goal.returns
 returns c =
@@ -52,10 +52,10 @@ returns c =
     let again : c.as_slice-2.result.now ≡ headers_of file = c.as_slice-2.ensures.value ∙ c.in_ok-headers.ensures.are in
     let loaded : c.as_slice-3.result.now ≡ segments_of file = c.as_slice-3.ensures.value ∙ c.in_ok-loaded.ensures.are ∙ ap (filter is_segment) again in
     let none : list_any is_dynamic (headers_of file) ≡ false = ap (list_any is_dynamic) (sym table) ∙ sym c.if-any_dynamic.ensures in
-    let found : c.in_ok-judged.judged ≡ first (segment_tests (length file) c.word-entry.result c.args.room c.as_slice-3.result.now) = c.in_ok-judged.ensures in
-    let passed : first (segment_tests (length file) c.word-entry.result c.args.room c.as_slice-3.result.now) ≡ None = sym found ∙ c.in_default-judged.is in
-    let same = ap (λ hs. first (segment_tests (length file) c.word-entry.result c.args.room hs)) loaded in
-    let at = ap (λ a. first (segment_tests (length file) a c.args.room (segments_of file))) c.word-entry.ensures in
+    let found : c.in_ok-judged.judged ≡ first (segment_tests (length file) c.word_at-entry.result c.args.room c.as_slice-3.result.now) = c.in_ok-judged.ensures in
+    let passed : first (segment_tests (length file) c.word_at-entry.result c.args.room c.as_slice-3.result.now) ≡ None = sym found ∙ c.in_default-judged.is in
+    let same = ap (λ hs. first (segment_tests (length file) c.word_at-entry.result c.args.room hs)) loaded in
+    let at = ap (λ a. first (segment_tests (length file) a c.args.room (segments_of file))) c.word_at-entry.ensures in
     let takes = accepted file c.args.room (sym c.header_refusal.ensures ∙ c.in_default.is) none (sym at ∙ sym same ∙ passed) in
     let used : c.as_slice-4.result.now ≡ segments_of file = c.as_slice-4.ensures.value ∙ sym c.as_slice-3.ensures.value ∙ loaded in
-    record { is = image_is file c.args.room c.as_slice-4.result.now c.new.result c.word-entry.result takes used (c.new.ensures ∙ c.in_ok-segments.ensures) c.word-entry.ensures }
+    record { is = image_is file c.args.room c.as_slice-4.result.now c.new.result c.word_at-entry.result takes used (c.new.ensures ∙ c.in_ok-segments.ensures) c.word_at-entry.ensures }

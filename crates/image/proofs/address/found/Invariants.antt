@@ -1,7 +1,7 @@
 use Rattle.std.proofs.Common.{◌≡◌, drop}
 use Rattle.std.specs.List.{find}
-use Rattle.elf_image.specs.Image.{holds}
-use Rattle.elf_image.proofs.address.found.Given as goal
+use Rattle.image.specs.Addresses.{holds}
+use Rattle.image.proofs.address.found.Given as goal
 
 abbrev pub invariant-loop-segment : goal.invariant-loop-segment
 invariant-loop-segment l = find (holds l.at) (drop l.segment-index l.segments) ≡ find (holds l.at) l.segments

@@ -1,6 +1,6 @@
 // What stands at an address of an image.
 ghost use Rattle.std.specs.Prelude.{◌≡◌, true, Some, None, IfSome, MatchOption, find};
-ghost use Rattle.elf_image.specs.Image as spec;
+ghost use Rattle.image.specs.Addresses as spec;
 
 use crate::{Image, Perm, Segment};
 use bitflags::Flags;
@@ -29,7 +29,7 @@ fn found(segments: &[Segment], at: u32) -> Option<&Segment>
 
 /// The byte at an address, None where no segment has it. Behind the bytes of a segment's file pages stand zeros. It takes
 /// no memory.
-#[tactic(auto, unfolding(crate::specs::Image::segment_at))]
+#[tactic(auto, unfolding(crate::specs::Addresses::segment_at))]
 pub fn byte_at(image: &Image, at: u32) -> Option<u8>
     ensures byte { result ≡ spec.byte_at image.now at }
 {
@@ -39,9 +39,9 @@ pub fn byte_at(image: &Image, at: u32) -> Option<u8>
 }
 
 /// Whether the byte at an address can be run: none can where no segment has it (gABI, "Segment Permissions").
-#[tactic(auto, unfolding(crate::specs::Image::segment_at))]
+#[tactic(auto, unfolding(crate::specs::Addresses::segment_at))]
 pub fn can_run(image: &Image, at: u32) -> bool
-    ensures can { result ≡ spec.can_run_at image.now at }
+    ensures can { result ≡ spec.can_run image.now at }
 {
     match found(image.segments.as_slice(), at) {
         None => false,

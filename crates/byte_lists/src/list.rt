@@ -18,6 +18,7 @@ impl Model for ByteList {
 }
 
 impl ByteList {
+    /// The list of a `Vec`'s bytes.
     pub fn new(bytes: Vec<u8>) -> ByteList
         ensures { result ≡ bytes.items }
     {
@@ -31,12 +32,14 @@ impl ByteList {
         self.bytes.as_slice()
     }
 
+    /// How many bytes it has.
     pub fn len(&self) -> usize
         ensures { result ≡ length self.now }
     {
         self.bytes.len()
     }
 
+    /// Whether it has none.
     pub fn is_empty(&self) -> bool
         ensures { result ≡ (length self.now == 0) }
     {

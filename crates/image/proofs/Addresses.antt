@@ -1,7 +1,7 @@
 -- The first segment that has an address, found one by one.
 use Rattle.std.proofs.Common.{◌≡◌, ℕ, ◌+◌, ◌<◌, ◌≤◌, Bool, cond, List, length, drop, get_or, find, Some, None, sym, ap, ◌∙◌}
 use Rattle.std.proofs.lemmas.List.{at_drop_more, at_drop_all}
-use Rattle.elf_image.specs.declared.image.Segment.{Segment}
+use Rattle.image.specs.declared.image.Segment.{Segment}
 
 module _ (p : Segment → Bool) where
   pub find_more : (ss : List Segment) (i : ℕ) (s : Segment) → i < length ss → s ≡ get_or ss i s → find p (drop i ss) ≡ cond (p s) (Some s) (find p (drop (i + 1) ss))

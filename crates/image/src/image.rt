@@ -2,8 +2,8 @@
 ghost use Rattle.std.specs.Prelude.{◌≡◌, length};
 
 use crate::Perm;
+use byte_lists::ByteList;
 use std::marker::Model;
-use x86_values::ByteList;
 
 /// A run of pages. `start` and `size` are multiples of 4,096; `bytes` are those of the segment's file pages, in whole
 /// pages too, and every byte after them is 0.
@@ -23,7 +23,7 @@ pub struct SegmentList {
 
 impl Model for SegmentList {
     ghost use Rattle.std.specs.Prelude.{List};
-    ghost use Rattle.elf_image.specs.declared.image.Segment.{Segment};
+    ghost use Rattle.image.specs.declared.image.Segment.{Segment};
 
     ghost Value = { List Segment };
 
@@ -31,6 +31,7 @@ impl Model for SegmentList {
 }
 
 impl SegmentList {
+    /// The list of a `Vec`'s segments.
     pub fn new(segments: Vec<Segment>) -> SegmentList
         ensures { result ≡ segments.items }
     {

@@ -1,0 +1,12 @@
+//! Images of executables: segments of whole pages with their permissions, and the entry.
+#![tactic(auto)]
+
+mod address;
+mod image;
+mod perm;
+#[cfg(test)]
+mod tests;
+
+pub use address::{byte_at, can_run};
+pub use image::{Image, Segment, SegmentList};
+pub use perm::Perm;
