@@ -1,0 +1,10 @@
+use Rattle.memory.proofs.Calls as calls
+use Rattle.memory.proofs.laws.call_laws.Goals as goal
+
+pub returns : goal.returns
+returns c = record {
+  by_buffer = calls.by_buffer;
+  same_in_is_buffer = calls.same_in_is_buffer;
+  are_plain = calls.are_plain;
+  keep_environment = calls.keep_environment;
+}

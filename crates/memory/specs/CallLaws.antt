@@ -1,0 +1,53 @@
+-- The laws of system calls.
+use Rattle.std.specs.Prelude.{◌≡◌, ℕ, ◌<◌, true, false, min, Bool, List, [], All, Some}
+use Rattle.x86_values.specs.Words.{IsByte, known}
+use Rattle.outside.specs.Environment.{Environment, cap, IsEnvironment}
+use Rattle.traces.specs.Trace.{Label, End, Guard, Stopped, turns}
+use Rattle.memory.specs.Memory.{Memory, Stored, Load, Store, bytes_at, SameIn}
+use Rattle.memory.specs.SystemCall.{Request, Called, Ends, Gives, passes, system_call}
+
+-- two memories have the same buffer for a call: whether it can be read or written, and, where it can be read, its bytes
+pub record SameBuffer (at count : ℕ) (m n : Memory) : Type 0 where
+  pub load : passes Load m at count ≡ passes Load n at count
+  pub store : passes Store m at count ≡ passes Store n at count
+  pub bytes : passes Load m at count ≡ true → bytes_at m at (min count cap) ≡ bytes_at n at (min count cap)
+
+-- a call looks at no more of memory than its buffer
+abbrev pub CallByBuffer : Type 0
+CallByBuffer = (q : Request) (m n : Memory) (left : Environment) → ((at count : ℕ) → known q.at ≡ Some at → known q.count ≡ Some count → SameBuffer at count m n) → system_call q m left ≡ system_call q n left
+
+-- memories that are the same in the buffer have the same buffer
+abbrev pub SameInIsBuffer : Type 0
+SameInIsBuffer = (at count : ℕ) (m n : Memory) → SameIn at count m n → SameBuffer at count m n
+
+-- neither a stop nor a guard event, which no machine has of its own
+abbrev pub is_own_end : End → Bool
+is_own_end (Stopped a) = false
+is_own_end (Guard k a) = false
+is_own_end e = true
+
+-- a call ends with an end of its own, or shows labels that begin no turn
+abbrev pub IsPlainCall : Called → Type 0
+IsPlainCall (Ends e) = is_own_end e ≡ true
+IsPlainCall (Gives ls result stores left) = turns ls ≡ 0
+
+abbrev pub CallsArePlain : Type 0
+CallsArePlain = (q : Request) (m : Memory) (left : Environment) → IsPlainCall (system_call q m left)
+
+-- what a call stores are known bytes of the input, and what it leaves is an environment again
+abbrev pub StoresBytes : List Stored → Type 0
+StoresBytes stores = All (λ (s : Stored). All IsByte s.bytes) stores
+
+abbrev pub IsKept : Called → Type 0
+IsKept (Ends e) = Unit {0}
+IsKept (Gives ls result stores left) = StoresBytes stores × IsEnvironment left
+
+abbrev pub CallsKeepEnvironment : Type 0
+CallsKeepEnvironment = (q : Request) (m : Memory) (left : Environment) → IsEnvironment left → IsKept (system_call q m left)
+
+-- the laws of system calls
+pub record CallLaws : Type 0 where
+  pub by_buffer : CallByBuffer
+  pub same_in_is_buffer : SameInIsBuffer
+  pub are_plain : CallsArePlain
+  pub keep_environment : CallsKeepEnvironment

@@ -1,0 +1,4 @@
+pub mod Memory
+pub mod MemoryLaws
+pub mod SystemCall
+pub mod CallLaws
