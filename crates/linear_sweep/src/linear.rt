@@ -3,7 +3,6 @@ ghost use Rattle.std.specs.Prelude.{◌≡◌, ◌+◌, ◌≤◌, ◌<◌, ◌^
 ghost use Rattle.linear_sweep.specs.Sweep.{Grows, Sweeps, no_counts};
 
 use x86_decode::{Decoded, decode};
-use x86_grammar::spelling_is_short;
 
 /// How many instructions were found, in how many bytes, and how many bytes begin no spelling or
 /// one that is cut off.
@@ -31,7 +30,6 @@ fn more(seen: Counts, bytes: &[u8]) -> Counts
     requires few { seen.instructions ≤ seen.spelled }
     ensures { Grows bytes.now seen result }
 {
-    spelling_is_short();
     match decode(bytes) {
         Decoded::One(_, length) => Counts {
             instructions: seen.instructions + 1,

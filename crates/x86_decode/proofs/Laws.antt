@@ -1,12 +1,16 @@
 -- What is decoded is exactly what is spelled, where reading is right.
-use Rattle.std.proofs.Common.{◌≡◌, ℕ, zero, suc, ◌+◌, ◌-◌, ◌<◌, ◌≤◌, Bool, true, false, cond, leb, List, [], ◌∷◌, ◌++◌, length, take, drop, get_or, inl, inr, refl, sym, ap, subst, ◌∙◌, arith, length-append, length-take, length-drop}
+use Rattle.std.proofs.Common.{◌≡◌, ℕ, zero, suc, ◌+◌, ◌-◌, ◌<◌, ◌≤◌, Bool, true, false, cond, leb, List, [], ◌∷◌, ◌++◌, length, take, drop, get_or, Some, inl, inr, refl, sym, ap, subst, ◌∙◌, arith, length-append, length-take, length-drop}
 use Rattle.std.proofs.lemmas.Bool.{cases_lt, le-leb, leb-true}
 use Rattle.std.proofs.lemmas.List.{take-append-drop, take_at, take-take, take-append-le, take_all}
-use Rattle.std.specs.Prelude.{◌↔◌}
+use Rattle.std.proofs.lemmas.List.Elements.{All-from_recursion}
+use Rattle.std.specs.Prelude.{◌↔◌, All}
 use Rattle.x86_types.specs.declared.instr.Instr.{Instr}
 use Rattle.x86_grammar.specs.declared.reading.Seen.{Seen}
 use Rattle.x86_grammar.specs.declared.reading.Seen.TheVariants.{Found, Needs, Never}
 use Rattle.x86_grammar.specs.Spells.{Spells}
+use Rattle.x86_grammar.specs.Fields.{HasSpelling}
+use Rattle.x86_grammar.specs.Front.{front}
+use Rattle.x86_grammar.specs.FrontLaws.{FrontIsSpelling}
 use Rattle.x86_grammar.specs.Fronts.{FrontSpells, IsShort, IsOutside}
 use Rattle.x86_grammar.specs.Reading.{read, AreBytes, ReadsRight}
 use Rattle.x86_decode.specs.declared.decoding.Decoded.{Decoded}
@@ -66,19 +70,19 @@ pub left_fits : (laws : ReadsRight) (bytes : List ℕ) (i : Instr) (left : ℕ) 
 left_fits laws bytes i left h e = let g = laws.gave bytes i left h e in omega (arith, g.len, ap length g.parts, length-append g.text g.rest)
 
 module _ (laws : ReadsRight) (bytes : List ℕ) (h : AreBytes bytes) where
-  abbrev front : List ℕ
-  front = take 15 bytes
+  abbrev fifteen : List ℕ
+  fifteen = take 15 bytes
 
-  fits : AreBytes front
+  fits : AreBytes fifteen
   fits = bytes_take 15 bytes h
 
   one_spells : (i : Instr) (len : ℕ) → decoded bytes ≡ One i len → FrontSpells bytes i len
   unfolding decoded
   one_spells i len e =
-      let f = found_one (length front) (read front) i len e in
-      let g = laws.gave front i f.0 fits f.1 in
+      let f = found_one (length fifteen) (read fifteen) i len e in
+      let g = laws.gave fifteen i f.0 fits f.1 in
       let n : length g.text ≡ len = omega (arith, f.2, g.len, ap length g.parts, length-append g.text g.rest) in
-      let short : len ≤ length front = omega (arith, n, ap length g.parts, length-append g.text g.rest) in
+      let short : len ≤ length fifteen = omega (arith, n, ap length g.parts, length-append g.text g.rest) in
       let most = length-take 15 bytes in
       let text : take len bytes ≡ g.text = sym (take-take len 15 bytes (omega arith)) ∙ ap (take len) g.parts ∙ take_at g.text g.rest len n in
       record { there = omega arith; spells = rw text (g.spells (omega arith)) }
@@ -89,19 +93,19 @@ module _ (laws : ReadsRight) (bytes : List ℕ) (h : AreBytes bytes) where
       let t = take len bytes in
       let n : length t ≡ len = omega (arith, length-take len bytes, s.there) in
       let short = s.spells.short in
-      let parts : front ≡ t ++ drop len front = sym (take-append-drop len front) ∙ ap (λ (y : List ℕ). y ++ drop len front) (take-take len 15 bytes (omega arith)) in
-      let w = laws.whole t (drop len front) i s.spells in
-      let seen : read front ≡ Found i (length (drop len front)) = ap read parts ∙ w in
-      let left : length front - length (drop len front) ≡ len = omega (arith, ap length parts, length-append t (drop len front)) in
+      let parts : fifteen ≡ t ++ drop len fifteen = sym (take-append-drop len fifteen) ∙ ap (λ (y : List ℕ). y ++ drop len fifteen) (take-take len 15 bytes (omega arith)) in
+      let w = laws.whole t (drop len fifteen) i s.spells in
+      let seen : read fifteen ≡ Found i (length (drop len fifteen)) = ap read parts ∙ w in
+      let left : length fifteen - length (drop len fifteen) ≡ len = omega (arith, ap length parts, length-append t (drop len fifteen)) in
       rw (seen, left) refl
 
   short_is : decoded bytes ≡ Short → IsShort bytes
   unfolding decoded
   short_is e =
-      let s = short_some (length front) (read front) e in
-      let w = laws.wants front s.0 fits s.1 in
+      let s = short_some (length fifteen) (read fifteen) e in
+      let w = laws.wants fifteen s.0 fits s.1 in
       let few : length bytes < 15 = omega (arith, s.2, w.some, length-take 15 bytes) in
-      let whole : front ≡ bytes = take_all 15 bytes (omega arith) in
+      let whole : fifteen ≡ bytes = take_all 15 bytes (omega arith) in
       let longer : length (bytes ++ w.more) ≤ 15 = omega (arith, length-append bytes w.more, s.2, w.len, ap length whole) in
       let text : Spells (bytes ++ w.more) w.instr = subst (λ (y : List ℕ). length (y ++ w.more) ≤ 15 → Spells (y ++ w.more) w.instr) whole w.spells longer in
       record {
@@ -121,7 +125,7 @@ module _ (laws : ReadsRight) (bytes : List ℕ) (h : AreBytes bytes) where
       elim (cases_lt (length bytes) s.on.len) [
         | inr le ↦ absurd (s.none s.on.instr s.on.len (record { there = le; spells = subst (λ (y : List ℕ). Spells y s.on.instr) (take-append-le s.on.len bytes s.on.more le) s.on.longer.spells }))
         | inl lt ↦
-            let whole : front ≡ bytes = take_all 15 bytes (omega (arith, s.few)) in
+            let whole : fifteen ≡ bytes = take_all 15 bytes (omega (arith, s.few)) in
             let t = take s.on.len (bytes ++ s.on.more) in
             let n : length t ≡ s.on.len = omega (arith, length-take s.on.len (bytes ++ s.on.more), s.on.longer.there) in
             let begins : take (length bytes) t ≡ bytes = take-take (length bytes) s.on.len (bytes ++ s.on.more) (omega arith) ∙ take_at bytes s.on.more (length bytes) refl in
@@ -150,3 +154,16 @@ module _ (laws : ReadsRight) (bytes : List ℕ) (h : AreBytes bytes) where
 
   pub outside_exact : (decoded bytes ≡ Outside) ↔ IsOutside bytes
   outside_exact = (outside_is, is_outside)
+
+  pub one_spelled : (i : Instr) (len : ℕ) → decoded bytes ≡ One i len → HasSpelling i
+  one_spelled i len e = record { bytes = take len bytes; spells = (one_spells i len e).spells }
+
+  module _ (fronts : FrontIsSpelling) where
+    all : All (λ b. b < 256) bytes
+    all = All-from_recursion (λ b. b < 256) bytes h
+
+    pub computed_exact : (i : Instr) (len : ℕ) → (decoded bytes ≡ One i len) ↔ (front bytes ≡ Some (i, len))
+    computed_exact i len = let x = fronts.exact bytes all i len in (λ e. x.1 (one_spells i len e), λ e. spells_one i len (x.0 e))
+
+    pub one_fits : (i : Instr) (len : ℕ) → decoded bytes ≡ One i len → (1 ≤ len) × (len ≤ 15) × (len ≤ length bytes)
+    one_fits i len e = let f = (fronts.exact bytes all i len).1 (one_spells i len e) in (fronts.some bytes i len all f, fronts.few bytes i len f, fronts.there bytes i len f)

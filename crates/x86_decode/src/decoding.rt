@@ -1,11 +1,13 @@
-ghost use Rattle.std.specs.Prelude.{◌≡◌, ◌↔◌, ◌≤◌, ℕ, length};
+ghost use Rattle.std.specs.Prelude.{◌≡◌, ◌↔◌, ◌≤◌, ℕ, Some, length};
 ghost use Rattle.x86_decode.specs.Decoding as spec;
+ghost use Rattle.x86_grammar.specs.Fields.{HasSpelling};
+ghost use Rattle.x86_grammar.specs.Front.{front};
 ghost use Rattle.x86_grammar.specs.Fronts.{FrontSpells, IsOutside, IsShort};
 ghost use Rattle.x86_grammar.specs.Reading as reading;
 ghost use Rattle.x86_types.specs.declared.instr.Instr.{Instr};
 
 use crate::reading::read;
-use x86_grammar::{Seen, reading_is_right};
+use x86_grammar::{Seen, front_laws, reading_is_right};
 use x86_types::Instr;
 
 /// What bytes begin with: an instruction and the number of its bytes, 1 to 15; nothing in the list;
@@ -54,7 +56,13 @@ pub fn decode(bytes: &[u8]) -> Decoded
     ensures one { (i : Instr) (len : ℕ) → (result ≡ Decoded.One i len) ↔ FrontSpells bytes.now i len }
     ensures short { (result ≡ Decoded.Short) ↔ IsShort bytes.now }
     ensures outside { (result ≡ Decoded.Outside) ↔ IsOutside bytes.now }
+    ensures computed { (i : Instr) (len : ℕ) →
+        (result ≡ Decoded.One i len) ↔ (front bytes.now ≡ Some (i, len)) }
+    ensures fits { (i : Instr) (len : ℕ) → result ≡ Decoded.One i len →
+        (1 ≤ len) × (len ≤ 15) × (len ≤ length bytes.now) }
+    ensures spelled { (i : Instr) (len : ℕ) → result ≡ Decoded.One i len → HasSpelling i }
 {
     reading_is_right();
+    front_laws();
     decode_front(bytes)
 }

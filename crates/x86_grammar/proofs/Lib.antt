@@ -4,6 +4,7 @@ pub mod Bytes
 pub mod Fit
 pub mod FormsFit
 pub mod Front
+pub mod FrontLaws
 pub mod LittleEndian
 pub mod Map
 pub mod Means

@@ -2,6 +2,8 @@ pub mod Attributes
 pub mod Fields
 pub mod FormLaws
 pub mod Forms
+pub mod Front
+pub mod FrontLaws
 pub mod Fronts
 pub mod Meaning
 pub mod Operand

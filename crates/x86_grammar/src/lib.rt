@@ -4,6 +4,7 @@
 mod attributes;
 mod fields;
 mod form_laws;
+mod fronts;
 mod group;
 mod opcode_map;
 mod parts;
@@ -13,6 +14,7 @@ mod spelling;
 
 pub use attributes::{can_half, half_in, has_operand, imm_size, key_of, prefixes_fit, width_of};
 pub use form_laws::forms_are_right;
+pub use fronts::front_laws;
 pub use group::member;
 pub use opcode_map::{ENTRIES, entry_at, opcode_map_is_right};
 pub use parts::signed;
