@@ -2,3 +2,4 @@ pub mod Memory
 pub mod MemoryLaws
 pub mod SystemCall
 pub mod CallLaws
+pub mod Rows

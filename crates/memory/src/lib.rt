@@ -3,4 +3,4 @@
 
 mod laws;
 
-pub use laws::{call_laws, memory_laws};
+pub use laws::{call_laws, memory_laws, worked_memory};

@@ -1,7 +1,6 @@
-pub mod Built
-pub mod Spellings
+pub mod Steps
+pub mod Cases
 pub mod States
-pub mod Memories
+pub mod Bytes
 pub mod Moves
 pub mod Rows
-pub mod WholeGrammar

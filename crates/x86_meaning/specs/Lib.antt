@@ -1,9 +1,11 @@
-pub mod Spells
-pub mod Memory
-pub mod SystemCall
+pub mod Registers
+pub mod Operands
+pub mod Effect
 pub mod Step
 pub mod Run
-pub mod Laws
-pub mod MemoryLaws
-pub mod StateLaws
+pub mod Agreement
+pub mod StepLaws
+pub mod RunLaws
 pub mod Rows
+pub mod CallRows
+pub mod MoveRows

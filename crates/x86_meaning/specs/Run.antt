@@ -1,38 +1,30 @@
 -- Runs of programs. The instructions and the memory that a run begins with are two things.
-use Rattle.std.specs.Prelude.{◌≡◌, ℕ, ◌+◌, ◌%◌, ◌^◌, ◌<◌, ◌≤◌, List, [], ◌∷◌, length, All, None}
-use Rattle.outside.specs.declared.answer.Answer.{Answer}
-use Rattle.outside.specs.declared.answer.Answer.TheVariants.{Take, Fail}
+use Rattle.std.specs.Prelude.{◌≡◌, ℕ, ◌+◌, ◌%◌, ◌<◌, ◌≤◌, ◌==◌, cond, List, length, All, None}
+use Rattle.outside.specs.Environment.{Environment}
 use Rattle.x86_values.specs.declared.word.Flags.{Flags}
 use Rattle.x86_values.specs.Words.{word_of}
 use Rattle.traces.specs.Trace.{Behaviour, run}
 use Rattle.traces.specs.Machines.{turned}
 use Rattle.image.specs.declared.image.Image.{Image}
-use Rattle.image.specs.Addresses.{code_bytes}
-use Rattle.x86_meaning.specs.declared.state.Cpu.{Cpu}
-use Rattle.x86_meaning.specs.Spells.{front}
-use Rattle.x86_meaning.specs.Memory.{Memory, memory_of, with_stack}
-use Rattle.outside.specs.Environment.{Environment}
-use Rattle.x86_meaning.specs.Step.{State, Code, next}
-
--- what stands at each address of an image: the instruction that a front of the executable bytes from there spells
-unfoldable pub code_of : Image → Code
-code_of image a = front (code_bytes image a 15)
+use Rattle.memory.specs.Memory.{Memory, memory_of, with_stack}
+use Rattle.x86_code.specs.Code.{Code, code_of}
+use Rattle.x86_meaning.specs.Registers.{Registers, Processor}
+use Rattle.x86_meaning.specs.Step.{State, next}
 
 abbrev pub no_flags : Flags
 no_flags = record { cf = None; pf = None; zf = None; sf = None; of = None }
 
--- the processor at process entry (psABI, Intel386 supplement, "Process Initialization"): esp and eip are given; that the
--- other registers are 0 and the flags unspecified is own
-abbrev pub first_cpu : ℕ → ℕ → Cpu
-first_cpu entry esp0 = record {
-  regs = word_of 0 ∷ word_of 0 ∷ word_of 0 ∷ word_of 0 ∷ word_of esp0 ∷ word_of 0 ∷ word_of 0 ∷ word_of 0 ∷ [];
-  flags = no_flags;
-  eip = entry;
-}
+abbrev pub first_registers : ℕ → Registers
+first_registers esp0 k = cond (k == 4) (word_of esp0) (word_of 0)
+
+-- the processor at process entry (psABI, Intel386 supplement, "Process Initialization"): esp is given; that the other registers are
+-- 0 and the flags unspecified is own
+abbrev pub first_processor : ℕ → Processor
+first_processor esp0 = record { regs = first_registers esp0; flags = no_flags }
 
 -- a run begins at an entry, over a memory to which the stack is added
 unfoldable pub start_over : Memory → ℕ → ℕ → List ℕ → Environment → State
-start_over m entry esp0 stack left = record { cpu = first_cpu entry esp0; memory = with_stack esp0 stack m; left = left }
+start_over m entry esp0 stack left = record { cpu = first_processor esp0; eip = entry; memory = with_stack esp0 stack m; left = left }
 
 -- that of an image
 abbrev pub start_of : Image → ℕ → List ℕ → Environment → State
@@ -50,7 +42,7 @@ pub record IsStart (esp0 : ℕ) (stack : List ℕ) : Type 0 where
 -- What is seen of the run of some instructions from a state. Each step is a turn at the address of its instruction, so a
 -- run that is cut earlier is this run with an earlier stop.
 unfoldable pub run_from : Code → State → Behaviour
-run_from code s = run (turned (λ t. t.cpu.eip) (next code)) s
+run_from code s = run (turned (λ t. t.eip) (next code)) s
 
 -- the run of an image
 abbrev pub run_of : Image → ℕ → List ℕ → Environment → Behaviour

@@ -1,68 +1,96 @@
--- The state of the machine, and one step.
-use Rattle.std.specs.Prelude.{ℕ, ◌+◌, ◌%◌, List, [], Option, Some, None, slice_set, slice_index_or}
-use Rattle.x86_values.specs.declared.byte.Byte.TheVariants.{Known}
-use Rattle.x86_values.specs.declared.word.Word.{Word}
+-- The state of the machine, and one step: the accesses are judged, the effect is made, and the step is finished.
+use Rattle.std.specs.Prelude.{ℕ, ◌+◌, ◌&&◌, Bool, true, false, List, [], ◌∷◌, Option, Some, None}
 use Rattle.x86_values.specs.Words.{word_of, known}
-use Rattle.traces.specs.Trace.{Label, Outside, Unspecified, Move, Stand, Go, Halt}
-use Rattle.x86_meaning.specs.declared.state.Cpu.{Cpu}
-use Rattle.x86_types.specs.declared.operand.Rm.TheVariants as rm
-use Rattle.x86_types.specs.declared.operand.Src.TheVariants as src
-use Rattle.x86_types.specs.declared.width.Width.TheVariants.{Four}
-use Rattle.x86_types.specs.declared.instr.Instr.{Instr}
-use Rattle.x86_types.specs.declared.instr.Instr.TheVariants.{Mov, Jmp, Int80}
-use Rattle.x86_types.specs.Numbers.{number_of_reg}
-use Rattle.x86_meaning.specs.Memory.{Memory, forget_below}
 use Rattle.outside.specs.Environment.{Environment}
-use Rattle.x86_meaning.specs.SystemCall.{Request, Called, Ends, Gives, system_call}
+use Rattle.traces.specs.Trace.{Label, End, MemoryFault, Outside, Unspecified, Move, Stand, Go, Halt}
+use Rattle.memory.specs.Memory.{Memory, wrapped, AccessKind, Load, Store, allows_all, store_all, forget_below}
+use Rattle.memory.specs.SystemCall.{Request, Called, Ends, Gives, system_call}
+use Rattle.x86_types.specs.declared.instr.Instr.{Instr}
+use Rattle.x86_code.specs.Code.{Code}
+use Rattle.x86_meaning.specs.Registers.{Processor, with_register, machine_naming}
+use Rattle.x86_meaning.specs.Operands.{Access}
+use Rattle.x86_meaning.specs.Effect.{Way, Falls, JumpsBy, JumpsTo, Repeats, Calls, Halts, Effect, accesses, effect}
 
 pub record State : Type 0 where
-  pub cpu : Cpu
+  pub cpu : Processor
+  pub eip : ℕ
   pub memory : Memory
   pub left : Environment
 
-abbrev pub zero_word : Word
-zero_word = record { b0 = Known 0; b1 = Known 0; b2 = Known 0; b3 = Known 0 }
+-- ---- the judging
+-- an access of this kind is allowed; the others aren't looked at
+abbrev pub access_allowed : AccessKind → AccessKind → Memory → ℕ → ℕ → Bool
+access_allowed Load Load m at size = allows_all Load m at size
+access_allowed Store Store m at size = allows_all Store m at size
+access_allowed Load Store m at size = true
+access_allowed Store Load m at size = true
 
--- a register by number
-abbrev pub reg_at : Cpu → ℕ → Word
-reg_at cpu n = slice_index_or cpu.regs n zero_word
+-- so is each one of a list
+abbrev pub all_allowed : AccessKind → List Access → Memory → Bool
+all_allowed kind [] m = true
+all_allowed kind (a ∷ more) m = access_allowed kind a.kind m a.at a.size && all_allowed kind more m
 
-abbrev pub with_reg : ℕ → Word → Cpu → Cpu
-with_reg n w cpu = record { regs = slice_set cpu.regs n w; flags = cpu.flags; eip = cpu.eip }
-
--- addresses wrap
-abbrev pub with_eip : ℕ → Cpu → Cpu
-with_eip a cpu = record { regs = cpu.regs; flags = cpu.flags; eip = a % 4294967296 }
-
-abbrev pub with_cpu : Cpu → State → State
-with_cpu cpu s = record { cpu = cpu; memory = s.memory; left = s.left }
-
+-- ---- the finish
 -- After each step no byte of the stack below esp is known; an unspecified byte in esp ends the run. (own)
 abbrev pub settled_by : Option ℕ → List Label → State → Move State
 settled_by None ls s = Halt ls Unspecified
-settled_by (Some esp) ls s = Go ls (record { cpu = s.cpu; memory = forget_below esp s.memory; left = s.left })
+settled_by (Some esp) ls s = Go ls (record s { memory = forget_below esp s.memory })
 
 unfoldable pub settled : List Label → State → Move State
-settled ls s = settled_by (known (reg_at s.cpu 4)) ls s
+settled ls s = settled_by (known (s.cpu.regs 4)) ls s
 
-abbrev pub request_of : Cpu → Request
-request_of cpu = record { number = reg_at cpu 0; fd = reg_at cpu 3; at = reg_at cpu 1; count = reg_at cpu 2 }
+-- the same state at another address; addresses wrap
+abbrev pub at_address : ℕ → State → State
+at_address a s = record s { eip = wrapped a }
 
--- the result of a call goes to eax, and all else is kept
-abbrev pub after_call : Called → Cpu → Move State
-after_call (Ends e) cpu = Halt [] e
-after_call (Gives ls result m left) cpu = settled ls (record { cpu = with_reg 0 (word_of result) cpu; memory = m; left = left })
+-- a call is asked by eax, ebx, ecx and edx
+abbrev pub request_of : Processor → Request
+request_of cpu = record { number = cpu.regs 0; fd = cpu.regs 3; at = cpu.regs 1; count = cpu.regs 2 }
 
--- the effect of an instruction of this length (Intel SDM volume 2, "MOV", "JMP", "INT n"); those that aren't built stand nowhere
+-- the result of a call goes to eax, and the other registers and the flags are kept
+abbrev pub with_result : ℕ → Processor → Processor
+with_result result cpu = record cpu { regs = with_register 0 (word_of result) cpu.regs }
+
+abbrev pub after_call : Called → State → Move State
+after_call (Ends e) s = Halt [] e
+after_call (Gives ls result stores left) s = settled ls (record { cpu = with_result result s.cpu; eip = s.eip; memory = store_all stores s.memory; left = left })
+
+-- by the way of the effect, where the next instruction stands at an address
+unfoldable pub finish : Way → ℕ → State → Move State
+finish Falls next s = settled [] (at_address next s)
+finish (JumpsBy by) next s = settled [] (at_address (next + by) s)
+finish (JumpsTo target) next s = settled [] (at_address target s)
+finish Repeats next s = settled [] s
+finish Calls next s = after_call (system_call (request_of s.cpu) s.memory s.left) (at_address next s)
+finish (Halts e) next s = Halt [] e
+
+-- ---- the step
+abbrev pub performed : Effect → State → State
+performed e s = record s { cpu = e.cpu; memory = store_all e.stores s.memory }
+
+-- the stores are judged after an end of the effect
+abbrev pub by_stores : Bool → Effect → ℕ → State → Move State
+by_stores false e next s = Halt [] MemoryFault
+by_stores true e next s = finish e.way next (performed e s)
+
+abbrev pub by_way : Way → Bool → Effect → ℕ → State → Move State
+by_way Falls stores e next s = by_stores stores e next s
+by_way (JumpsBy by) stores e next s = by_stores stores e next s
+by_way (JumpsTo target) stores e next s = by_stores stores e next s
+by_way Repeats stores e next s = by_stores stores e next s
+by_way Calls stores e next s = by_stores stores e next s
+by_way (Halts end) stores e next s = Halt [] end
+
+-- the loads before it
+abbrev pub by_loads : Bool → Bool → Effect → ℕ → State → Move State
+by_loads false stores e next s = Halt [] MemoryFault
+by_loads true stores e next s = by_way e.way stores e next s
+
+-- one step of an instruction of this length
 unfoldable pub step : Instr → ℕ → State → Move State
-step (Mov Four (rm.Reg to) (src.Imm from)) len s = settled [] (with_cpu (with_reg (number_of_reg to) (word_of from) (with_eip (s.cpu.eip + len) s.cpu)) s)
-step (Jmp by) len s = settled [] (with_cpu (with_eip (s.cpu.eip + len + by) s.cpu) s)
-step Int80 len s = after_call (system_call (request_of s.cpu) s.memory s.left) (with_eip (s.cpu.eip + len) s.cpu)
-step _ len s = Stand [] Outside
-
--- the instruction that stands at an address, with its length
-abbrev pub Code : Type 0
-Code = ℕ → Option (Instr × ℕ)
+step i len s =
+    let made = accesses machine_naming i s.cpu.regs in
+    by_loads (all_allowed Load made s.memory) (all_allowed Store made s.memory) (effect machine_naming i (wrapped (s.eip + len)) s.cpu s.memory) (s.eip + len) s
 
 abbrev pub step_at : Option (Instr × ℕ) → State → Move State
 step_at None s = Stand [] Outside
@@ -70,4 +98,4 @@ step_at (Some p) s = step p.0 p.1 s
 
 -- the machine; a place where no instruction stands ends the run without a step
 unfoldable pub next : Code → State → Move State
-next code s = step_at (code s.cpu.eip) s
+next code s = step_at (code s.eip) s

@@ -1,0 +1,74 @@
+-- Where the operands of an instruction stand, and what is read there and written (Intel SDM volume 2, section 2.1.5).
+use Rattle.std.specs.Prelude.{ℕ, ◌+◌, ◌*◌, ◌%◌, List, [], ◌∷◌, take, drop, Option, Some, None}
+use Rattle.std.specs.Option.{option_map}
+use Rattle.x86_values.specs.declared.byte.Byte.{Byte}
+use Rattle.x86_values.specs.declared.word.Word.{Word}
+use Rattle.x86_values.specs.Words.{word_of, known, word_list, padded}
+use Rattle.memory.specs.Memory.{Memory, AccessKind, Load, Store, bytes_at}
+use Rattle.x86_types.specs.declared.operand.Reg.{Reg}
+use Rattle.x86_types.specs.declared.operand.Address.{Address}
+use Rattle.x86_types.specs.declared.operand.Rm.{Rm}
+use Rattle.x86_types.specs.declared.operand.Rm.TheVariants as rm
+use Rattle.x86_types.specs.declared.operand.Src.{Src}
+use Rattle.x86_types.specs.declared.operand.Src.TheVariants as src
+use Rattle.x86_types.specs.declared.width.Width.{Width}
+use Rattle.x86_types.specs.declared.width.Width.TheVariants.{One, Two, Four}
+use Rattle.x86_meaning.specs.Registers.{Registers, Naming}
+
+-- an operand is bytes of a register's place from an index on, or of memory from an address on, or a constant
+pub data Location : Type 0 where
+  InRegister : (place : ℕ) → (index : ℕ) → Location
+  InMemory : (at : ℕ) → Location
+  Immediate : (number : ℕ) → Location
+
+-- that of a register field, by its width
+abbrev pub field : Naming → Width → Reg → Location
+field v One r = let p = v.byte r in InRegister p.0 p.1
+field v Two r = InRegister (v.whole r) 0
+field v Four r = InRegister (v.whole r) 0
+
+-- the number of a register that an address uses, and 0 where it uses none
+abbrev pub address_part : Naming → Registers → Option Reg → Option ℕ
+address_part v regs None = Some 0
+address_part v regs (Some r) = known (regs (v.whole r))
+
+abbrev pub address_sum : Address → Option ℕ → Option ℕ → Option ℕ
+address_sum a (Some base) (Some index) = Some ((base + index * a.scale + a.disp) % 4294967296)
+address_sum a _ _ = None
+
+-- base, index times scale and displacement, modulo 2^32; none where a byte of these registers is unspecified
+abbrev pub address : Naming → Registers → Address → Option ℕ
+address v regs a = address_sum a (address_part v regs a.base) (address_part v regs a.index)
+
+-- the operand of the rm field
+abbrev pub location_of : Naming → Registers → Width → Rm → Option Location
+location_of v regs w (rm.Reg r) = Some (field v w r)
+location_of v regs w (rm.Mem a) = option_map InMemory (address v regs a)
+
+-- an operand that is read
+abbrev pub source_of : Naming → Registers → Width → Src → Option Location
+source_of v regs w (src.Reg r) = Some (field v w r)
+source_of v regs w (src.Mem a) = option_map InMemory (address v regs a)
+source_of v regs w (src.Imm n) = Some (Immediate n)
+
+-- an access of memory, of so many bytes from an address on
+pub record Access : Type 0 where
+  pub kind : AccessKind
+  pub at : ℕ
+  pub size : ℕ
+
+-- what a location is accessed by, if it is memory
+abbrev pub access : AccessKind → ℕ → Location → List Access
+access kind size (InRegister p i) = []
+access kind size (InMemory at) = record { kind = kind; at = at; size = size } ∷ []
+access kind size (Immediate n) = []
+
+-- the bytes of a location
+abbrev pub bytes_in : ℕ → Location → Registers → Memory → List Byte
+bytes_in size (InRegister p i) regs m = take size (drop i (word_list (regs p)))
+bytes_in size (InMemory at) regs m = bytes_at m at size
+bytes_in size (Immediate n) regs m = take size (word_list (word_of n))
+
+-- the value of a location: its bytes, and zeros above them
+abbrev pub value_in : ℕ → Location → Registers → Memory → Word
+value_in size from regs m = padded (bytes_in size from regs m)
