@@ -4,7 +4,7 @@ use Rattle.traces.specs.Trace.{Label, Code, End, Exited, Outside, Unspecified, G
 use Rattle.traces.specs.Agree.{guard_turn, Follows}
 use Rattle.traces.specs.Plain.{Matches, DoesPlainly}
 use Rattle.trace_checks.specs.Played.{played, played_on, counted, repeat, alternate, one, two}
-use Rattle.trace_checks.specs.AgreementChecks.{Agreed, RefusesDroppedEvent, RefusesOtherEvent, RefusesEarlyEnd, RefusesEndlessRun, RefusesOtherStatus, RefusesExtraEvent, RefusesDroppedBeforeUnspecified, RefusesExitAtGuard, RefusesSlowExit, AllowsAnythingAfterUnspecified, AllowsOutsideAtGuard, AllowsSlowExit, RefusesStepLeftOut}
+use Rattle.trace_checks.specs.AgreementChecks.{Agreed, RefusesDroppedEvent, RefusesOtherEvent, RefusesEarlyEnd, RefusesEndlessRun, RefusesOtherStatus, RefusesExtraEvent, RefusesDroppedBeforeUnspecified, RefusesExitAtGuard, RefusesSlowExit, AllowsAnythingAfterUnspecified, AllowsOutsideAtGuard, AllowsSlowExit, RefusesStepLeftOut, RefusesFewerSteps}
 
 -- a run that has ended shows the same within each bound
 ended_at : (e : End) (k : ℕ) → played [] e k ≡ seen [] (Some e)
@@ -238,3 +238,10 @@ refuses_step_left_out a b p =
     let n = f.does.ahead (ap (λ s. s.end) alternate_at) in
     let e = ap length (f.does.same_events ∙ ap (λ s. events s.trace) alternate_at) in
     absurd (omega (arith, n, e, repeat_length x.0 0))
+
+pub refuses_fewer_steps : RefusesFewerSteps
+refuses_fewer_steps a b p =
+    let d = p.does 2 in
+    let n = (d.running (ap (λ s. s.end) alternate_at)).0 in
+    let e = ap length (d.same_events ∙ ap (λ s. events s.trace) alternate_at) in
+    absurd (omega (arith, n, e, repeat_length d.steps 0))

@@ -3,3 +3,6 @@ pub mod Agreement
 pub mod Ends
 pub mod Weight
 pub mod Alternate
+pub mod UnitChain
+pub mod LaidCode
+pub mod Rows

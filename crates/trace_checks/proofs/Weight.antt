@@ -1,29 +1,45 @@
--- A turn over several blocks takes no more steps than the weight.
+-- A turn over several blocks takes no more steps than the weight, and steps before the first turn need a constant.
 use Rattle.std.proofs.Common.{◌≡◌, ◌+◌, ◌≤◌, ℕ, zero, suc, List, [], ◌∷◌, refl, arith}
-use Rattle.traces.specs.Machines.{PacedMove, PacedStep, To}
-use Rattle.traces.proofs.Pace.{paced_by}
-use Rattle.trace_checks.specs.WeightChecks.{Piece, Place, mark, walk_in, walk, tail_if, tail, heaviest, WalkPaced}
+use Rattle.traces.specs.Trace.{run}
+use Rattle.traces.specs.Moves.{PacedMove, PacedStep, To, Holds}
+use Rattle.traces.specs.InvariantLaws.{InvariantLaws}
+use Rattle.trace_checks.specs.WeightChecks.{Piece, Place, LightPlace, mark, walk_in, walk, tail_if, tail, heaviest, WalkPaced, RefusesWeightWithoutConstant, AllowsWeightWithConstant}
 
 abbrev left : Place → ℕ
 left s = s.inside + tail s.rest
 
 module _ (W : ℕ) where
-  abbrev Light : Place → Type 0
-  Light s = heaviest s.rest ≤ W
+  abbrev at : LightPlace W → Place
+  at p = p.place
 
-  kept : (k : ℕ) (ps : List Piece) → heaviest ps ≤ W → To Light (walk_in k ps)
-  kept (suc k) ps h = h
+  holds : (s : Place) → heaviest s.rest ≤ W → Holds at s
+  holds s h = (record { place = s; light = h }, refl)
+
+  kept : (k : ℕ) (ps : List Piece) → heaviest ps ≤ W → To (Holds at) (walk_in k ps)
+  kept (suc k) ps h = holds (record { inside = k; rest = ps }) h
   kept zero [] h = tt
-  kept zero (p ∷ ps) h = omega (arith, h)
+  kept zero (p ∷ ps) h = holds (record { inside = p.more; rest = ps }) (omega (arith, h))
 
-  begins : (a m t : ℕ) → suc (m + t) ≤ W → PacedStep W (tail_if a m t) (m + t) (mark a)
+  begins : (a m t : ℕ) → suc (m + t) ≤ W → PacedStep W (tail_if a m t) 1 (m + t) (mark a)
   begins zero m t h = record { one_turn = tt; left = omega arith }
   begins (suc a) m t h = record { one_turn = refl; left = omega (arith, h) }
 
-  paces : (k : ℕ) (ps : List Piece) → heaviest ps ≤ W → PacedMove W left (k + tail ps) (walk_in k ps)
+  paces : (k : ℕ) (ps : List Piece) → heaviest ps ≤ W → PacedMove W left (k + tail ps) 1 (walk_in k ps)
   paces (suc k) ps h = record { one_turn = tt; left = omega arith }
   paces zero [] h = refl
   paces zero (p ∷ ps) h = let e : 0 + tail (p ∷ ps) ≡ tail (p ∷ ps) = omega arith in rw e (begins p.at p.more (tail ps) (omega (arith, h)))
 
-pub walk_paced : WalkPaced
-walk_paced ps h = paced_by walk (heaviest ps) left (Light (heaviest ps)) (λ s v. kept (heaviest ps) s.inside s.rest v) (λ s v. paces (heaviest ps) s.inside s.rest v) (record { inside = 0; rest = ps }) (omega arith) (omega (arith, h))
+pub walk_paced : ((W : ℕ) → InvariantLaws Place (LightPlace W)) → WalkPaced
+walk_paced laws ps =
+    let W = heaviest ps in
+    let s : Place = record { inside = 0; rest = ps } in
+    (laws W).paced_by_moves walk (at W) (λ i. kept W i.place.inside i.place.rest i.light) W (tail ps) left (λ i. paces W i.place.inside i.place.rest i.light) (record { place = s; light = omega arith }) (omega arith)
+
+pub allows_weight_with_constant : ((W : ℕ) → InvariantLaws Place (LightPlace W)) → AllowsWeightWithConstant
+allows_weight_with_constant laws = walk_paced laws (record { at = 0; more = 0 } ∷ record { at = 1; more = 0 } ∷ [])
+
+pub refuses_weight_without_constant : RefusesWeightWithoutConstant
+unfolding run
+refuses_weight_without_constant w p =
+    let x = p.weight 1 in
+    absurd (omega (arith, x.few, x.running refl))

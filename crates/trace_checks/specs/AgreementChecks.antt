@@ -45,6 +45,11 @@ RefusesExitAtGuard = Agreed (played [] (Guard Code 5)) (played [] (Exited 0)) �
 abbrev pub RefusesSlowExit : Type 0
 RefusesSlowExit = Agreed (played ([] ∷ []) (Exited 0)) (counted 4353 (Exited 0)) → ⊥
 
+-- one that takes fewer steps than the old one, which takes one step of two to show nothing, whatever the bound: it shows the same
+-- events, but must have taken as many steps as the old one where that hasn't ended
+abbrev pub RefusesFewerSteps : Type 0
+RefusesFewerSteps = (a b : ℕ) → AgreePlainly a b (run (alternate (one ∷ [])) 0) (run (repeat (one ∷ [])) 0) → ⊥
+
 -- what follows the use of an unspecified value is free, where the events before it are made first
 abbrev pub AllowsAnythingAfterUnspecified : Type 0
 AllowsAnythingAfterUnspecified = (R : Behaviour) → events (R 0).trace ≡ [] → (R 0).end ≡ None → events (R 1).trace ≡ events (one ∷ []) → Agreed (played ((one ∷ []) ∷ []) Unspecified) R

@@ -3,3 +3,5 @@ pub mod TurnChecks
 pub mod AgreementChecks
 pub mod EndingChecks
 pub mod WeightChecks
+pub mod Chain
+pub mod RowChecks

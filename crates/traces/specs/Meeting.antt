@@ -2,7 +2,8 @@
 use Rattle.std.specs.Prelude.{◌≡◌, ℕ, ◌≤◌, ◌<◌, List, Option, Some, None, ◌⊎◌, ◌≢◌}
 use Rattle.traces.specs.Trace.{Label, GuardKind, End, Unspecified, Guard, Stopped, Seen, Move, run, events, turns, IsPrefix}
 use Rattle.traces.specs.Turns.{IsDefined, IsOpen, within, TraceAt}
-use Rattle.traces.specs.Simulation.{Goes, Paired}
+use Rattle.traces.specs.Steps.{Goes}
+use Rattle.traces.specs.Simulation.{Paired}
 
 -- both go on, with the same labels, to states that are related
 pub record OnBoth {S T : Type 0} (source : S → Move S) (target : T → Move T) (Rel : S → T → Type 0) (s : S) (t : T) : Type 0 where
@@ -28,13 +29,13 @@ pub record Ahead (a b : List Label) : Type 0 where
   pub same : (q : ℕ) → q < turns a → (e e' : Option End) → within b q e' ≡ within a q e
   pub front : (q : ℕ) (e e' : Option End) → IsPrefix (events (within a q e).trace) (events (within b q e').trace)
 
--- what is seen is the same, or the first used an unspecified value and the second is ahead
-pub record SameFit (c r : Seen) : Type 0 where
+-- the same is seen of both, or the first used an unspecified value and the second is ahead
+pub record SeenRefines (c r : Seen) : Type 0 where
   pub defined : IsDefined c → r ≡ c
   pub unspecified : c.end ≡ Some Unspecified → Ahead c.trace r.trace
 
 -- what is seen of a cut run, and of a unit beside it
-pub record CutFit (reports : ℕ) (c r : Seen) : Type 0 where
+pub record SeenRefinesCut (reports : ℕ) (c r : Seen) : Type 0 where
   pub open_same : IsOpen c → r ≡ c
   pub guard : (k : GuardKind) (a : ℕ) → c.end ≡ Some (Guard k a) → (r.end ≡ Some (Stopped a)) × TraceAt reports a c.trace r.trace
   pub unspecified : c.end ≡ Some Unspecified → Ahead c.trace r.trace

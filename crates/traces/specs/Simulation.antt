@@ -1,14 +1,9 @@
 -- Forward simulation: a target machine follows a source machine, one move at a time.
 use Rattle.std.specs.Prelude.{◌≡◌, ℕ, ◌+◌, ◌≤◌, List, [], Some, None}
-use Rattle.traces.specs.Trace.{Label, Seen, Move, Stand, Go, Halt, seen, before, run, events}
+use Rattle.traces.specs.Trace.{Label, Seen, Move, Stand, Go, Halt, seen, run, events}
+use Rattle.traces.specs.Steps.{Goes}
 use Rattle.traces.specs.Turns.{IsDefined}
 use Rattle.traces.specs.Agree.{end_as, outside}
-
--- the machine goes on from a state to another in k steps, at least one, and shows these labels
-pub record Goes {T : Type 0} (next : T → Move T) (t : T) (k : ℕ) (ls : List Label) (t' : T) : Type 0 where
-  pub some : 1 ≤ k
-  pub awake : run next t 0 ≡ seen [] None
-  pub by : (j : ℕ) → run next t (k + j) ≡ before ls (run next t' j)
 
 -- within some steps, at most K, what is seen of the target fits what is seen of the source where it ends
 pub record Ends {T : Type 0} (next : T → Move T) (P : Seen → Seen → Type 0) (K : ℕ) (c : Seen) (t : T) : Type 0 where

@@ -1,4 +1,4 @@
-use Rattle.trace_checks.proofs.Agreement.{refuses_dropped_event, refuses_other_event, refuses_early_end, refuses_endless_run, refuses_other_status, refuses_extra_event, refuses_dropped_before_unspecified, refuses_exit_at_guard, refuses_slow_exit, allows_anything_after_unspecified, allows_outside_at_guard, allows_slow_exit, refuses_step_left_out}
+use Rattle.trace_checks.proofs.Agreement.{refuses_dropped_event, refuses_other_event, refuses_early_end, refuses_endless_run, refuses_other_status, refuses_extra_event, refuses_dropped_before_unspecified, refuses_exit_at_guard, refuses_slow_exit, allows_anything_after_unspecified, allows_outside_at_guard, allows_slow_exit, refuses_step_left_out, refuses_fewer_steps}
 use Rattle.trace_checks.proofs.checks.agreement_checks.Goals as goal
 
 pub returns-clause-refuses_dropped_event : goal.returns-clause-refuses_dropped_event
@@ -39,3 +39,6 @@ returns-clause-allows_slow_exit c = allows_slow_exit
 
 pub returns-clause-refuses_step_left_out : goal.returns-clause-refuses_step_left_out
 returns-clause-refuses_step_left_out c = refuses_step_left_out
+
+pub returns-clause-refuses_fewer_steps : goal.returns-clause-refuses_fewer_steps
+returns-clause-refuses_fewer_steps c = refuses_fewer_steps

@@ -1,0 +1,69 @@
+ghost use Rattle.std.specs.Prelude.{ℕ};
+ghost use Rattle.trace_checks.specs.Chain.{CodeCostsSwept, CodeRefinesSwept, CodeWeighs, LaidAgreesWithCut, LaidCostsCode, LaidFollowsUnit, RefusesTwoSteps, SweptRefinesUnit, UnitRefinesCut};
+
+use crate::machines::{EachCount, EachInstruction, Instructions, LaidPlaces, Numbers, Operations};
+use traces::{agreement_laws, move_laws, run_laws, simulation_laws, turn_laws};
+
+/// Code that is laid out, and what it costs.
+pub trait Weighted {
+    /// So many steps of the laid code for each turn.
+    ghost weight: { ℕ };
+    /// So many before the first turn.
+    ghost constant: { ℕ };
+    /// So many at the end.
+    ghost last: { ℕ };
+
+    /// Does nothing: its clause says that the first two are a weight of the code.
+    fn weighs()
+        ensures { CodeWeighs weight constant };
+
+    /// Does nothing: its clause says that the laid code takes no more steps than that.
+    fn costs()
+        ensures { LaidCostsCode last };
+}
+
+/// The code of the chain.
+pub struct SmallCode;
+
+impl Weighted for SmallCode {
+    ghost weight = { 3 };
+
+    ghost constant = { 2 };
+
+    ghost last = { 1 };
+
+    fn weighs() {
+        move_laws::<Instructions>();
+    }
+
+    fn costs() {
+        run_laws::<LaidPlaces>();
+        simulation_laws::<Instructions, LaidPlaces, EachInstruction>();
+    }
+}
+
+/// Calls the laws of runs alone: its clauses are a chain from a cut run to laid code, step by step.
+pub fn chain_checks()
+    ensures unit_refines_cut { UnitRefinesCut }
+    ensures swept_refines_unit { SweptRefinesUnit }
+    ensures code_refines_swept { CodeRefinesSwept }
+    ensures code_costs_swept { CodeCostsSwept }
+    ensures laid_follows_unit { LaidFollowsUnit }
+    ensures laid_agrees_with_cut { LaidAgreesWithCut }
+    ensures refuses_two_steps { RefusesTwoSteps }
+{
+    <SmallCode as Weighted>::weighs();
+    <SmallCode as Weighted>::costs();
+    agreement_laws();
+    turn_laws();
+    run_laws::<Numbers>();
+    run_laws::<Operations>();
+    run_laws::<Instructions>();
+    run_laws::<LaidPlaces>();
+    move_laws::<Numbers>();
+    move_laws::<Operations>();
+    move_laws::<Instructions>();
+    simulation_laws::<Numbers, Operations, EachCount>();
+    simulation_laws::<Operations, Operations, EachCount>();
+    simulation_laws::<Operations, Instructions, EachCount>();
+}
