@@ -2,7 +2,7 @@
 use Rattle.std.proofs.Common.{◌≡◌, ℕ, zero, suc, ◌+◌, ◌-◌, ◌<◌, ◌%◌, ◌^◌, Option, Some, None, Bool, true, false, cond, not, ◌||◌, eqb, ltb, eq-eqb, subst, refl, ap, sym, arith, [], ◌∷◌, ◌++◌, List, inl, inr, ◌⊎◌}
 use Rattle.std.proofs.lemmas.Bool.{eqb-true, cond_both, false≢true}
 use Rattle.x86_types.specs.Numbers.{number_of_reg, number_of_alu, number_of_shift, reg_of, alu_of}
-use Rattle.x86_types.proofs.Inverses.{reg_again, alu_again}
+use Rattle.x86_types.specs.NumberLaws.{reg_again, alu_again}
 use Rattle.x86_types.specs.declared.operand.Reg.{Reg}
 use Rattle.x86_types.specs.declared.operand.Reg.TheVariants as reg
 use Rattle.x86_types.specs.declared.operation.AluOp.{AluOp}

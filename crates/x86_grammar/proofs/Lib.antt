@@ -9,6 +9,7 @@ pub mod LittleEndian
 pub mod Map
 pub mod Means
 pub mod Operands
+pub mod RenamedFields
 pub mod Sees
 pub mod Sound
 pub mod Stages

@@ -2,7 +2,7 @@
 use Rattle.std.proofs.Common.{◌≡◌, ℕ, zero, suc, ◌%◌, Option, Some, None, Bool, true, false, cond, not, ◌&&◌, ◌||◌, eqb, eq-eqb, subst, refl, sym, [], ◌∷◌, ◌++◌, List, inl, inr}
 use Rattle.std.proofs.lemmas.Bool.{eqb-true, cond_both}
 use Rattle.x86_types.specs.Numbers.{number_of_reg, number_of_alu, number_of_shift}
-use Rattle.x86_types.proofs.Inverses.{reg_of-number, alu_of-number}
+use Rattle.x86_types.specs.NumberLaws.{reg_of-number, alu_of-number}
 use Rattle.x86_types.specs.declared.operand.Reg.{Reg}
 use Rattle.x86_types.specs.declared.operand.Reg.TheVariants as reg
 use Rattle.x86_types.specs.declared.operation.AluOp.{AluOp}

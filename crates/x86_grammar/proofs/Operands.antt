@@ -8,7 +8,7 @@ use Rattle.x86_types.specs.declared.operand.Rm.{Rm}
 use Rattle.x86_types.specs.declared.operand.Rm.TheVariants as rm
 use Rattle.x86_types.specs.declared.width.Width.TheVariants.{Four}
 use Rattle.x86_types.specs.Numbers.{number_of_reg, reg_of}
-use Rattle.x86_types.proofs.Inverses.{reg_of-number}
+use Rattle.x86_types.specs.NumberLaws.{reg_of-number}
 use Rattle.x86_grammar.specs.Parts.{signed}
 use Rattle.x86_grammar.specs.Operand.{Operand, IsOperand, rm_of, has_sib, low_of, mod_size, disp_size, disp_of, base_of, index_in, index_of, scale_in, scale_of, address}
 use Rattle.x86_grammar.specs.Fields.{number_fits, scale_fits, index_fits, address_fits, rm_fits}

@@ -9,6 +9,7 @@ pub mod Meaning
 pub mod Operand
 pub mod Parts
 pub mod Reading
+pub mod Renamings
 pub mod Rows
 pub mod Spells
 pub mod Table

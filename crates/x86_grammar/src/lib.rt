@@ -9,6 +9,7 @@ mod group;
 mod opcode_map;
 mod parts;
 mod reading;
+mod renamings;
 mod row;
 mod spelling;
 
@@ -19,6 +20,7 @@ pub use group::member;
 pub use opcode_map::{ENTRIES, entry_at, opcode_map_is_right};
 pub use parts::signed;
 pub use reading::{Seen, reading_is_right};
+pub use renamings::renaming_laws;
 pub use row::{Counts, Entry, Form, Group, Row};
 pub use spelling::{
     has_spelling, no_spelling_begins_another, spelled_fields_fit, spelling_is_short,

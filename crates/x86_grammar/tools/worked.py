@@ -9,24 +9,24 @@ in its list. The rows were read off the manual's pages.
 SPELLED = [
     # Alu
     ("|00|C8|", "Alu alu.Add One (rm.Reg reg.Eax) (src.Reg reg.Ecx)", 0),
-    ("66|83|C0|FF", "Alu alu.Add Two (rm.Reg reg.Eax) (src.Imm 65535)", 2),
+    ("66|83|C0|FF", "Alu alu.Add Two (rm.Reg reg.Eax) (src.Imm 0xFFFF)", 2),
     ("|2B|0C 24|", "Alu alu.Sub Four (rm.Reg reg.Ecx) (src.Mem (at (Some reg.Esp) None 1 0))", 0),
-    ("|3D||78 56 34 12", "Alu alu.Cmp Four (rm.Reg reg.Eax) (src.Imm 305419896)", 1),
+    ("|3D||78 56 34 12", "Alu alu.Cmp Four (rm.Reg reg.Eax) (src.Imm 0x12345678)", 1),
     # Test
     ("|85|C0|", "Test Four (rm.Reg reg.Eax) (src.Reg reg.Eax)", 0),
     ("|A8||01", "Test One (rm.Reg reg.Eax) (src.Imm 1)", 1),
     ("66|F7|45 FC|34 12",
-     "Test Two (rm.Mem (at (Some reg.Ebp) None 1 4294967292)) (src.Imm 4660)", 0),
+     "Test Two (rm.Mem (at (Some reg.Ebp) None 1 0xFFFFFFFC)) (src.Imm 0x1234)", 0),
     # Mov
     ("|B8||01 00 00 00", "Mov Four (rm.Reg reg.Eax) (src.Imm 1)", 1),
     ("|8A|A0 00 01 00 00|",
-     "Mov One (rm.Reg reg.Esp) (src.Mem (at (Some reg.Eax) None 1 256))", 0),
-    ("|A1||00 A0 04 08", "Mov Four (rm.Reg reg.Eax) (src.Mem (at None None 1 134520832))", 1),
-    ("66|A3||00 A0 04 08", "Mov Two (rm.Mem (at None None 1 134520832)) (src.Reg reg.Eax)", 1),
+     "Mov One (rm.Reg reg.Esp) (src.Mem (at (Some reg.Eax) None 1 0x100))", 0),
+    ("|A1||00 A0 04 08", "Mov Four (rm.Reg reg.Eax) (src.Mem (at None None 1 0x804A000))", 1),
+    ("66|A3||00 A0 04 08", "Mov Two (rm.Mem (at None None 1 0x804A000)) (src.Reg reg.Eax)", 1),
     ("|8B|44 8D FC|",
-     "Mov Four (rm.Reg reg.Eax) (src.Mem (at (Some reg.Ebp) (Some reg.Ecx) 4 4294967292))", 0),
+     "Mov Four (rm.Reg reg.Eax) (src.Mem (at (Some reg.Ebp) (Some reg.Ecx) 4 0xFFFFFFFC))", 0),
     ("|8B|04 64|", "Mov Four (rm.Reg reg.Eax) (src.Mem (at (Some reg.Esp) None 1 0))", 0),
-    ("66|B8||34 12", "Mov Two (rm.Reg reg.Eax) (src.Imm 4660)", 1),
+    ("66|B8||34 12", "Mov Two (rm.Reg reg.Eax) (src.Imm 0x1234)", 1),
     ("|B4||01", "Mov One (rm.Reg reg.Esp) (src.Imm 1)", 1),
     ("|88|E9|", "Mov One (rm.Reg reg.Ecx) (src.Reg reg.Ebp)", 0),
     ("|8A|FE|", "Mov One (rm.Reg reg.Edi) (src.Reg reg.Esi)", 1),
@@ -37,7 +37,7 @@ SPELLED = [
     ("|40||", "Inc Four (rm.Reg reg.Eax)", 1),
     ("|FE|00|", "Inc One (rm.Mem (at (Some reg.Eax) None 1 0))", 0),
     ("66|4F||", "Dec Two (rm.Reg reg.Edi)", 1),
-    ("|FF|0D 00 00 00 10|", "Dec Four (rm.Mem (at None None 1 268435456))", 0),
+    ("|FF|0D 00 00 00 10|", "Dec Four (rm.Mem (at None None 1 0x10000000))", 0),
     # Not, Neg
     ("|F6|D4|", "Not One (rm.Reg reg.Esp)", 0),
     ("66|F7|D0|", "Not Two (rm.Reg reg.Eax)", 0),
@@ -52,8 +52,8 @@ SPELLED = [
     ("|0F AF|C1|", "Imul Four reg.Eax (rm.Reg reg.Ecx)", 0),
     ("66|0F AF|01|", "Imul Two reg.Eax (rm.Mem (at (Some reg.Ecx) None 1 0))", 0),
     # ImulBy
-    ("|69|C1|E8 03 00 00", "ImulBy Four reg.Eax (rm.Reg reg.Ecx) 1000", 0),
-    ("66|6B|C1|80", "ImulBy Two reg.Eax (rm.Reg reg.Ecx) 65408", 1),
+    ("|69|C1|E8 03 00 00", "ImulBy Four reg.Eax (rm.Reg reg.Ecx) 0x3E8", 0),
+    ("66|6B|C1|80", "ImulBy Two reg.Eax (rm.Reg reg.Ecx) 0xFF80", 1),
     # Shift
     ("|C1|E0|05", "Shift shift.Shl Four (rm.Reg reg.Eax) (count.Imm 5)", 0),
     ("66|D1|F8|", "Shift shift.Sar Two (rm.Reg reg.Eax) (count.Imm 1)", 1),
@@ -65,7 +65,7 @@ SPELLED = [
     ("|0F AD|C8|", "Shrd (rm.Reg reg.Eax) reg.Ecx count.Cl", 0),
     # Push
     ("|55||", "Push (src.Reg reg.Ebp)", 1),
-    ("|6A||FF", "Push (src.Imm 4294967295)", 1),
+    ("|6A||FF", "Push (src.Imm 0xFFFFFFFF)", 1),
     ("|FF|74 24 08|", "Push (src.Mem (at (Some reg.Esp) None 1 8))", 0),
     # Pop
     ("|5D||", "Pop (rm.Reg reg.Ebp)", 1),
@@ -101,18 +101,33 @@ SPELLED = [
     ("|A4||", "Movs One false", 0),
     ("F3|AB||", "Stos Four true", 0),
     # Jmp
-    ("|EB||FE", "Jmp 4294967294", 1),
-    ("|E9||00 01 00 00", "Jmp 256", 0),
+    ("|EB||FE", "Jmp 0xFFFFFFFE", 1),
+    ("|E9||00 01 00 00", "Jmp 0x100", 0),
     # JmpTo, CallTo
     ("3E|FF|E0|", "JmpTo (rm.Reg reg.Eax)", 0),
-    ("|FF|24 85 54 90 04 08|", "JmpTo (rm.Mem (at None (Some reg.Eax) 4 134516820))", 0),
+    ("|FF|24 85 54 90 04 08|", "JmpTo (rm.Mem (at None (Some reg.Eax) 4 0x8049054))", 0),
     ("|FF|D0|", "CallTo (rm.Reg reg.Eax)", 0),
     # Jcc
-    ("|77||23", "Jcc cond.A 35", 1),
-    ("|0F 84||FA FF FF FF", "Jcc cond.E 4294967290", 0),
+    ("|70||23", "Jcc cond.O 0x23", 1),
+    ("|71||23", "Jcc cond.No 0x23", 1),
+    ("|72||23", "Jcc cond.B 0x23", 1),
+    ("|73||23", "Jcc cond.Ae 0x23", 1),
+    ("|74||23", "Jcc cond.E 0x23", 1),
+    ("|75||23", "Jcc cond.Ne 0x23", 1),
+    ("|76||23", "Jcc cond.Be 0x23", 1),
+    ("|77||23", "Jcc cond.A 0x23", 1),
+    ("|78||23", "Jcc cond.S 0x23", 1),
+    ("|79||23", "Jcc cond.Ns 0x23", 1),
+    ("|7A||23", "Jcc cond.P 0x23", 1),
+    ("|7B||23", "Jcc cond.Np 0x23", 1),
+    ("|7C||23", "Jcc cond.L 0x23", 1),
+    ("|7D||23", "Jcc cond.Ge 0x23", 1),
+    ("|7E||23", "Jcc cond.Le 0x23", 1),
+    ("|7F||23", "Jcc cond.G 0x23", 1),
+    ("|0F 84||FA FF FF FF", "Jcc cond.E 0xFFFFFFFA", 0),
     # Call
-    ("|E8||10 00 00 00", "Call 16", 0),
-    ("|E8||FA FF FF FF", "Call 4294967290", 0),
+    ("|E8||10 00 00 00", "Call 0x10", 0),
+    ("|E8||FA FF FF FF", "Call 0xFFFFFFFA", 0),
     # Ret
     ("|C3||", "Ret 0", 1),
     ("F3|C3||", "Ret 0", 2),
@@ -166,7 +181,11 @@ def numbers(text):
 
 
 def listed(numbers_):
-    return "".join(f"{n} ∷ " for n in numbers_) + "[]"
+    return "".join(f"0x{n:02X} ∷ " for n in numbers_) + "[]"
+
+
+def hexa(number):
+    return f"0x{number:02X}" if number else "0"
 
 
 def shown(numbers_):
@@ -195,7 +214,7 @@ def spelled(at, row):
     everything = prefixes + opcode + rm + number
     return (f"-- {shown(everything)}\n"
             f"spelled_{at} : Spells ({listed(everything)}) (instr.{instr})\n"
-            f"spelled_{at} = spelled ({listed(prefixes)}) _ (operand {m} {sib} {disp}) _ "
+            f"spelled_{at} = spelled ({listed(prefixes)}) _ (operand {hexa(m)} {hexa(sib)} {hexa(disp)}) _ "
             f"({among}) {says} refl\n")
 
 
@@ -214,9 +233,14 @@ def table(name, type_, rows):
 
 
 def all_of(*tables):
-    """The lemmas of tables' rows as one fact."""
+    """The lemmas of tables' rows as one fact, in the layout of rt fmt."""
     names = [f"{name}_{at}" for name, rows in tables for at, _ in enumerate(rows)]
-    return "(" + ",\n    (".join(names) + ", tt" + ")" * len(names)
+    lines = ["("]
+    for at, name in enumerate(names):
+        lines.append("  " * (at + 1) + name + ",")
+        lines.append("  " * (at + 1) + ("(" if at + 1 < len(names) else "tt,"))
+    lines += ["  " * at + ")" + ("," if at else "") for at in range(len(names) - 1, -1, -1)]
+    return "\n".join(lines)
 
 
 def rewrite(text, begin, end, body):
@@ -236,12 +260,10 @@ def main():
     begin = "-- ---- the end of the rows\n"
     text = text[:text.index(begin) + len(begin)] + f"""
 pub all_spelled : AllSpelled
-all_spelled =
-    {all_of(("spelled", SPELLED))}
+all_spelled = {all_of(("spelled", SPELLED))}
 
 pub none_spelled_there : NoneSpelled
-none_spelled_there =
-    {all_of(("nothing", NOTHING), ("too_long", TOO_LONG))}
+none_spelled_there = {all_of(("nothing", NOTHING), ("too_long", TOO_LONG))}
 """
     open(path, "w").write(text)
     rows = [f"({listed(numbers(text.replace('|', ' ')))}, instr.{instr})" for text, instr, _ in SPELLED]

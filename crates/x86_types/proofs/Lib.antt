@@ -1,1 +1,1 @@
-pub mod Inverses
+pub mod Renamings

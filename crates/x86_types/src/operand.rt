@@ -13,6 +13,14 @@ pub enum Reg {
     Edi,
 }
 
+/// One byte of a general register: byte 0 is the lowest, byte 1 the second. Intel SDM volume 2,
+/// table 3-1.
+#[derive(Clone, Copy, Debug, PartialEq, Eq)]
+pub struct ByteRegister {
+    pub reg: Reg,
+    pub byte: u8,
+}
+
 /// A place in memory: the sum of base, index times scale, and displacement, modulo 2^32. The
 /// scale is 1, 2, 4 or 8, and 1 where there is no index; the index is never Esp. Intel SDM volume
 /// 2, section 2.1.5.
