@@ -1,5 +1,5 @@
 -- The laws of system calls.
-use Rattle.std.proofs.Common.{◌≡◌, ℕ, ◌+◌, ◌<◌, ◌≤◌, ◌==◌, ◌&&◌, ◌||◌, Bool, true, false, cond, leb, min, List, [], ◌∷◌, map, take, drop, All, Option, Some, None, refl, sym, ◌∙◌, ap, subst, arith}
+use Rattle.std.proofs.Common.{◌≡◌, ℕ, zero, suc, ◌+◌, ◌<◌, ◌≤◌, ◌==◌, ◌&&◌, ◌||◌, Bool, true, false, cond, leb, min, List, [], ◌∷◌, length, map, take, drop, All, Option, Some, None, refl, sym, ◌∙◌, ap, subst, arith}
 use Rattle.std.proofs.lemmas.Bool.{and_parts}
 use Rattle.std.proofs.lemmas.List.Elements.{All-nil, All-cons, All-head, All-tail, All-take, All-drop}
 use Rattle.outside.specs.declared.answer.Answer.{Answer}
@@ -11,7 +11,7 @@ use Rattle.x86_values.specs.declared.byte.Byte.TheVariants.{Known}
 use Rattle.x86_values.specs.Words.{IsByte, known, known_byte, all_known}
 use Rattle.memory.specs.Memory.{Memory, wrapped, Stored, AccessKind, Load, Store, allows_all, bytes_at, SameIn}
 use Rattle.memory.specs.SystemCall.{Request, Called, Ends, Gives, error, EBADF, EFAULT, passes, Plan, Refused, Stops, Asks, read_plan, asks_known, write_plan, after_answer, read_by, write_by, reads, writes, read_call, write_call, exit_call, transfer, call_by, system_call}
-use Rattle.memory.specs.CallLaws.{SameBuffer, CallByBuffer, SameInIsBuffer, IsPlainCall, CallsArePlain, StoresBytes, IsKept, CallsKeepEnvironment}
+use Rattle.memory.specs.CallLaws.{SameBuffer, CallByBuffer, SameInIsBuffer, IsPlainCall, CallsArePlain, StoresBytes, IsKept, CallsKeepEnvironment, LeavesInput, CallsLeaveInput}
 use Rattle.memory.proofs.Memories.{allows_in_same, bytes_in_same}
 
 fewer : (at count k : ℕ) (m n : Memory) → k ≤ count → SameIn at count m n → SameIn at k m n
@@ -173,4 +173,29 @@ keep_environment q m left h = outcome_holds IsKept left (record {
   read = λ fd at n x e. read_kept fd at n x left h;
   write_refused = λ fd r. (nothing_stored, h);
   written = λ fd bytes x e. write_kept fd bytes x left h;
+}) q m
+
+-- ---- the input
+dropped : (n : ℕ) (xs : List ℕ) → drop n xs ≡ drop (length (take n xs)) xs
+dropped zero xs = refl
+dropped (suc n) [] = refl
+dropped (suc n) (x ∷ xs) = dropped n xs
+
+read_leaves : (fd at n : ℕ) (x : Answer) (left : Environment) → LeavesInput left.input (read_by x fd at n left)
+read_leaves fd at n (Take k) left = dropped (min k n) left.input
+read_leaves fd at n (Fail e) left = refl
+
+write_leaves : (fd : ℕ) (bytes : List ℕ) (x : Answer) (left : Environment) → LeavesInput left.input (write_by x fd bytes left)
+write_leaves fd bytes (Take k) left = refl
+write_leaves fd bytes (Fail e) left = refl
+
+pub leave_input : CallsLeaveInput
+leave_input q m left = outcome_holds (LeavesInput left.input) left (record {
+  stopped = tt;
+  exited = λ status. tt;
+  other = λ number. tt;
+  read_refused = λ fd at r. refl;
+  read = λ fd at n x e. read_leaves fd at n x left;
+  write_refused = λ fd r. refl;
+  written = λ fd bytes x e. write_leaves fd bytes x left;
 }) q m

@@ -2,7 +2,7 @@
 use Rattle.std.specs.Prelude.{◌≡◌, ℕ, ◌<◌, true, false, min, Bool, List, [], All, Some}
 use Rattle.x86_values.specs.Words.{IsByte, known}
 use Rattle.outside.specs.Environment.{Environment, cap, IsEnvironment}
-use Rattle.traces.specs.Trace.{Label, End, Guard, Stopped, turns}
+use Rattle.traces.specs.Trace.{Label, End, Guard, Stopped, turns, input_left}
 use Rattle.memory.specs.Memory.{Memory, Stored, Load, Store, bytes_at, SameIn}
 use Rattle.memory.specs.SystemCall.{Request, Called, Ends, Gives, passes, system_call}
 
@@ -45,9 +45,18 @@ IsKept (Gives ls result stores left) = StoresBytes stores × IsEnvironment left
 abbrev pub CallsKeepEnvironment : Type 0
 CallsKeepEnvironment = (q : Request) (m : Memory) (left : Environment) → IsEnvironment left → IsKept (system_call q m left)
 
+-- of the input it leaves what its reads don't take
+abbrev pub LeavesInput : List ℕ → Called → Type 0
+LeavesInput input (Ends e) = Unit {0}
+LeavesInput input (Gives ls result stores left) = left.input ≡ input_left input ls
+
+abbrev pub CallsLeaveInput : Type 0
+CallsLeaveInput = (q : Request) (m : Memory) (left : Environment) → LeavesInput left.input (system_call q m left)
+
 -- the laws of system calls
 pub record CallLaws : Type 0 where
   pub by_buffer : CallByBuffer
   pub same_in_is_buffer : SameInIsBuffer
   pub are_plain : CallsArePlain
   pub keep_environment : CallsKeepEnvironment
+  pub leave_input : CallsLeaveInput

@@ -5,6 +5,7 @@ use Rattle.x86_values.specs.declared.byte.Byte.{Byte}
 use Rattle.x86_values.specs.declared.byte.Byte.TheVariants.{Known}
 use Rattle.x86_values.specs.declared.word.Word.{Word}
 use Rattle.x86_values.specs.Words.{IsByte, IsWord, word_of, word_list, padded}
+use Rattle.x86_values.specs.WordLaws.{WordLaws}
 use Rattle.outside.specs.Environment.{Environment, IsEnvironment}
 use Rattle.traces.specs.Trace.{Label, Go}
 use Rattle.image.specs.declared.image.Image.{Image}
@@ -25,37 +26,6 @@ use Rattle.x86_meaning.specs.StepLaws.{IsOfBytes, IsImageOfBytes}
 use Rattle.x86_meaning.proofs.Cases.{made, settled_holds, finish_holds, step_holds, next_holds}
 use Rattle.x86_meaning.proofs.States.{Reaches, reached}
 
--- ---- words
-word_fits : (n : ℕ) → IsWord (word_of n)
-unfolding word_of
-word_fits n = record { b0 = omega arith; b1 = omega arith; b2 = omega arith; b3 = omega arith }
-
--- bytes one by one
-joined : (b : Byte) (bs : List Byte) → IsByte b → All IsByte bs → All IsByte (b ∷ bs)
-joined b bs h k = All-cons IsByte b bs h k
-
-list_fits : (w : Word) → IsWord w → All IsByte (word_list w)
-list_fits w h = joined w.b0 (w.b1 ∷ w.b2 ∷ w.b3 ∷ []) h.b0 (joined w.b1 (w.b2 ∷ w.b3 ∷ []) h.b1 (joined w.b2 (w.b3 ∷ []) h.b2 (joined w.b3 [] h.b3 (All-nil IsByte))))
-
-zero_fits : IsByte (Known 0)
-zero_fits = omega arith
-
-padded_fits : (bs : List Byte) → All IsByte bs → IsWord (padded bs)
-padded_fits [] h = record { b0 = zero_fits; b1 = zero_fits; b2 = zero_fits; b3 = zero_fits }
-padded_fits (a ∷ []) h = record { b0 = All-head IsByte a [] h; b1 = zero_fits; b2 = zero_fits; b3 = zero_fits }
-padded_fits (a ∷ b ∷ []) h =
-    let t : All IsByte (b ∷ []) = All-tail IsByte a (b ∷ []) h in
-    record { b0 = All-head IsByte a (b ∷ []) h; b1 = All-head IsByte b [] t; b2 = zero_fits; b3 = zero_fits }
-padded_fits (a ∷ b ∷ c ∷ []) h =
-    let t : All IsByte (b ∷ c ∷ []) = All-tail IsByte a (b ∷ c ∷ []) h in
-    let u : All IsByte (c ∷ []) = All-tail IsByte b (c ∷ []) t in
-    record { b0 = All-head IsByte a (b ∷ c ∷ []) h; b1 = All-head IsByte b (c ∷ []) t; b2 = All-head IsByte c [] u; b3 = zero_fits }
-padded_fits (a ∷ b ∷ c ∷ d ∷ rest) h =
-    let t : All IsByte (b ∷ c ∷ d ∷ rest) = All-tail IsByte a (b ∷ c ∷ d ∷ rest) h in
-    let u : All IsByte (c ∷ d ∷ rest) = All-tail IsByte b (c ∷ d ∷ rest) t in
-    let v : All IsByte (d ∷ rest) = All-tail IsByte c (d ∷ rest) u in
-    record { b0 = All-head IsByte a (b ∷ c ∷ d ∷ rest) h; b1 = All-head IsByte b (c ∷ d ∷ rest) t; b2 = All-head IsByte c (d ∷ rest) u; b3 = All-head IsByte d rest v }
-
 -- ---- registers
 abbrev Fit : Registers → Type 0
 Fit regs = (k : ℕ) → IsWord (regs k)
@@ -68,10 +38,10 @@ set_fits : (n : ℕ) (w : Word) (regs : Registers) → IsWord w → Fit regs →
 unfolding with_register
 set_fits n w regs p q k = either_word (k == n) w (regs k) p (q k)
 
-part_fits : (i : ℕ) (bs : List Byte) (w : Word) → All IsByte bs → IsWord w → IsWord (with_bytes i bs w)
-part_fits i bs w p q =
+part_fits : WordLaws → (i : ℕ) (bs : List Byte) (w : Word) → All IsByte bs → IsWord w → IsWord (with_bytes i bs w)
+part_fits words i bs w p q =
     let after : List Byte = drop (i + length bs) (word_list w) in
-    padded_fits (take i (word_list w) ++ (bs ++ after)) (All-append IsByte (take i (word_list w)) (bs ++ after) (All-take IsByte i (word_list w) (list_fits w q)) (All-append IsByte bs after p (All-drop IsByte (i + length bs) (word_list w) (list_fits w q))))
+    words.padded_of_bytes (take i (word_list w) ++ (bs ++ after)) (All-append IsByte (take i (word_list w)) (bs ++ after) (All-take IsByte i (word_list w) (words.list_of_bytes w q)) (All-append IsByte bs after p (All-drop IsByte (i + length bs) (word_list w) (words.list_of_bytes w q))))
 
 -- ---- effects
 pub record EffectFits (e : Effect) : Type 0 where
@@ -81,21 +51,21 @@ pub record EffectFits (e : Effect) : Type 0 where
 nothing_stored : StoresBytes []
 nothing_stored = All-nil _
 
-module _ (laws : MemoryLaws) where
+module _ (words : WordLaws) (laws : MemoryLaws) where
   bytes_fit : (size : ℕ) (from : Location) (regs : Registers) (m : Memory) → Fit regs → HasBytes m → All IsByte (bytes_in size from regs m)
-  bytes_fit size (InRegister p i) regs m h k = All-take IsByte size (drop i (word_list (regs p))) (All-drop IsByte i (word_list (regs p)) (list_fits (regs p) (h p)))
+  bytes_fit size (InRegister p i) regs m h k = All-take IsByte size (drop i (word_list (regs p))) (All-drop IsByte i (word_list (regs p)) (words.list_of_bytes (regs p) (h p)))
   bytes_fit size (InMemory at) regs m h k = laws.loads_bytes m at size k
-  bytes_fit size (Immediate n) regs m h k = All-take IsByte size (word_list (word_of n)) (list_fits (word_of n) (word_fits n))
+  bytes_fit size (Immediate n) regs m h k = All-take IsByte size (word_list (word_of n)) (words.list_of_bytes (word_of n) (words.word_of_bytes n))
 
   written_fits : (size : ℕ) (to : Location) (w : Word) (cpu : Processor) → IsWord w → Fit cpu.regs → EffectFits (written_to size to w cpu)
-  written_fits size (InRegister p i) w cpu h k = record { registers = set_fits p (with_bytes i (take size (word_list w)) (cpu.regs p)) cpu.regs (part_fits i (take size (word_list w)) (cpu.regs p) (All-take IsByte size (word_list w) (list_fits w h)) (k p)) k; stores = nothing_stored }
-  written_fits size (InMemory at) w cpu h k = record { registers = k; stores = All-cons (λ (s : Stored). All IsByte s.bytes) (record { at = at; bytes = take size (word_list w) }) [] (All-take IsByte size (word_list w) (list_fits w h)) nothing_stored }
+  written_fits size (InRegister p i) w cpu h k = record { registers = set_fits p (with_bytes i (take size (word_list w)) (cpu.regs p)) cpu.regs (part_fits words i (take size (word_list w)) (cpu.regs p) (All-take IsByte size (word_list w) (words.list_of_bytes w h)) (k p)) k; stores = nothing_stored }
+  written_fits size (InMemory at) w cpu h k = record { registers = k; stores = All-cons (λ (s : Stored). All IsByte s.bytes) (record { at = at; bytes = take size (word_list w) }) [] (All-take IsByte size (word_list w) (words.list_of_bytes w h)) nothing_stored }
   written_fits size (Immediate n) w cpu h k = record { registers = k; stores = nothing_stored }
 
   move_fits : (size : ℕ) (to from : Option Location) (cpu : Processor) (m : Memory) → Fit cpu.regs → HasBytes m → EffectFits (move_effect size to from cpu m)
   move_fits size None from cpu m h k = record { registers = h; stores = nothing_stored }
   move_fits size (Some to) None cpu m h k = record { registers = h; stores = nothing_stored }
-  move_fits size (Some to) (Some from) cpu m h k = written_fits size to (value_in size from cpu.regs m) cpu (padded_fits (bytes_in size from cpu.regs m) (bytes_fit size from cpu.regs m h k)) h
+  move_fits size (Some to) (Some from) cpu m h k = written_fits size to (value_in size from cpu.regs m) cpu (words.padded_of_bytes (bytes_in size from cpu.regs m) (bytes_fit size from cpu.regs m h k)) h
 
   effect_fits : (v : Naming) (i : Instr) (n : ℕ) (cpu : Processor) (m : Memory) → Fit cpu.regs → HasBytes m → EffectFits (effect v i n cpu m)
   unfolding effect
@@ -114,7 +84,7 @@ module _ (laws : MemoryLaws) where
 
   called_fits : (x : Called) (s : State) → IsKept x → IsOfBytes s → Reaches IsOfBytes (after_call x s)
   called_fits (Ends e) s k h = tt
-  called_fits (Gives ls result stores left) s k h = settled_fits ls (record { cpu = with_result result s.cpu; eip = s.eip; memory = store_all stores s.memory; left = left }) (record { registers = set_fits 0 (word_of result) s.cpu.regs (word_fits result) h.registers; memory = stores_fit stores s.memory k.0 h.memory; left = k.1 })
+  called_fits (Gives ls result stores left) s k h = settled_fits ls (record { cpu = with_result result s.cpu; eip = s.eip; memory = store_all stores s.memory; left = left }) (record { registers = set_fits 0 (word_of result) s.cpu.regs (words.word_of_bytes result) h.registers; memory = stores_fit stores s.memory k.0 h.memory; left = k.1 })
 
   finish_fits : CallLaws → (i : Instr) (len : ℕ) (s : State) → IsOfBytes s → Reaches IsOfBytes (finish (made i len s).way (s.eip + len) (performed (made i len s) s))
   finish_fits calls i len s h =
@@ -131,7 +101,7 @@ module _ (laws : MemoryLaws) where
   pub start_is_of_bytes : (image : Image) (esp0 : ℕ) (stack : List ℕ) (left : Environment) → IsImageOfBytes image → IsStart esp0 stack → IsEnvironment left → IsOfBytes (start_of image esp0 stack left)
   unfolding start_over
   start_is_of_bytes image esp0 stack left h start environment = record {
-    registers = λ k. either_word (k == 4) (word_of esp0) (word_of 0) (word_fits esp0) (word_fits 0);
+    registers = λ k. either_word (k == 4) (word_of esp0) (word_of 0) (words.word_of_bytes esp0) (words.word_of_bytes 0);
     memory = laws.stack_has_bytes esp0 stack (memory_of image) start.bytes (laws.image_has_bytes image h);
     left = environment;
   }

@@ -1,13 +1,16 @@
 -- What each move of the machine shows, and how it ends.
 use Rattle.std.proofs.Common.{◌≡◌, ℕ, ◌+◌, ◌≢◌, Bool, true, false, List, [], Option, Some, None, refl, subst}
 use Rattle.x86_values.specs.Words.{known}
-use Rattle.traces.specs.Trace.{Label, End, Guard, Stopped, GuardKind, Move, Stand, Go, Halt, Grows, turns}
-use Rattle.traces.specs.Turns.{Paced, Ticks}
+use Rattle.traces.specs.Trace.{Label, End, Guard, Stopped, GuardKind, Move, Stand, Go, Halt, Grows, turns, input_left}
+use Rattle.traces.specs.Steps.{Reaches}
+use Rattle.traces.specs.Weight.{Paced, Ticks}
 use Rattle.traces.specs.Plain.{NeverStops}
-use Rattle.traces.specs.Machines.{marked, turned, Unturned, EndsIn}
-use Rattle.traces.specs.MachineLaws.{RunGrows, EndsByMoves, TurnedTicks}
+use Rattle.traces.specs.Machines.{marked, turned}
+use Rattle.traces.specs.Moves.{Unturned, EndsIn, InputMove}
+use Rattle.traces.specs.RunLaws.{RunLaws}
+use Rattle.traces.specs.MoveLaws.{MoveLaws}
 use Rattle.memory.specs.Memory.{Memory, wrapped}
-use Rattle.memory.specs.CallLaws.{CallLaws, is_own_end, IsPlainCall}
+use Rattle.memory.specs.CallLaws.{CallLaws, is_own_end, IsPlainCall, LeavesInput}
 use Rattle.memory.specs.SystemCall.{Called, Ends, Gives, system_call}
 use Rattle.x86_types.specs.declared.instr.Instr.{Instr}
 use Rattle.x86_types.specs.declared.instr.Instr.TheVariants as instr
@@ -17,14 +20,8 @@ use Rattle.x86_meaning.specs.Registers.{Processor, Naming, machine_naming}
 use Rattle.x86_meaning.specs.Operands.{Location, InRegister, InMemory, Immediate, location_of, source_of}
 use Rattle.x86_meaning.specs.Effect.{Way, Falls, JumpsBy, JumpsTo, Repeats, Calls, Halts, move_effect, effect}
 use Rattle.x86_meaning.specs.Step.{State, settled, at_address, request_of, after_call, finish, performed, next}
-use Rattle.x86_meaning.specs.Run.{run_from}
+use Rattle.x86_meaning.specs.Run.{machine, run_from}
 use Rattle.x86_meaning.proofs.Cases.{made, settled_holds, finish_holds, step_holds, next_holds}
-
--- what the lemmas take from the laws of machines
-pub record LawsBelow : Type 0 where
-  pub run_grows : RunGrows State
-  pub ends_by_moves : EndsByMoves State
-  pub turned_ticks : TurnedTicks State
 
 abbrev pub IsOwn : End → Type 0
 IsOwn e = is_own_end e ≡ true
@@ -84,17 +81,14 @@ turned_own a (Stand ls e) h = h
 turned_own a (Go ls s) h = h
 turned_own a (Halt ls e) h = h
 
-module _ (calls : CallLaws) (laws : LawsBelow) (code : Code) (s : State) where
-  abbrev machine : State → Move State
-  machine = turned (λ t. t.eip) (next code)
-
+module _ (calls : CallLaws) (runs : RunLaws State) (moves : MoveLaws State) (code : Code) (s : State) where
   run_own : (n : ℕ) (e : End) → (run_from code s n).end ≡ Some e → IsOwn e
   unfolding run_from
-  run_own = laws.ends_by_moves machine is_own_end (λ t. turned_own t.eip (next code t) (next_plain calls code t).own) s
+  run_own = moves.ends_by_moves (machine code) is_own_end (λ t. turned_own t.eip (next code t) (next_plain calls code t).own) s
 
   pub grow : Grows (run_from code s)
   unfolding run_from
-  grow = laws.run_grows machine s
+  grow = runs.run_grows (machine code) s
 
   pub never_stop : NeverStops (run_from code s)
   never_stop n a h = let own : false ≡ true = run_own n (Stopped a) h in cc
@@ -102,12 +96,38 @@ module _ (calls : CallLaws) (laws : LawsBelow) (code : Code) (s : State) where
   pub no_guard : (n : ℕ) (k : GuardKind) (a : ℕ) → (run_from code s n).end ≢ Some (Guard k a)
   no_guard n k a h = let own : false ≡ true = run_own n (Guard k a) h in cc
 
-  turns_of : Ticks (run_from code s) × Paced 1 (run_from code s)
+  turns_of : Ticks (run_from code s) × Paced 1 0 (run_from code s)
   unfolding run_from
-  turns_of = laws.turned_ticks (λ t. t.eip) (next code) (λ t. (next_plain calls code t).unturned) s
+  turns_of = moves.turned_ticks (λ t. t.eip) (next code) (λ t. (next_plain calls code t).unturned) s
 
   pub tick : Ticks (run_from code s)
   tick = turns_of.0
 
-  pub paced : Paced 1 (run_from code s)
+  pub paced : Paced 1 0 (run_from code s)
   paced = turns_of.1
+
+-- ---- the input
+settled_input : (input : List ℕ) (ls : List Label) (s : State) → s.left.input ≡ input_left input ls → InputMove (λ t. t.left.input) input (settled ls s)
+settled_input input ls s h = settled_holds (InputMove (λ t. t.left.input) input) ls s tt (λ esp e. h)
+
+called_input : (input : List ℕ) (x : Called) (s : State) → LeavesInput input x → InputMove (λ t. t.left.input) input (after_call x s)
+called_input input (Ends e) s h = tt
+called_input input (Gives ls result stores left) s h = settled_input input ls _ h
+
+marked_input : (a : ℕ) (input : List ℕ) (m : Move State) → InputMove (λ t. t.left.input) input m → InputMove (λ t. t.left.input) input (marked a m)
+marked_input a input (Stand ls e) h = h
+marked_input a input (Go ls s) h = h
+marked_input a input (Halt ls e) h = h
+
+module _ (calls : CallLaws) where
+  finish_input : (i : Instr) (len : ℕ) (s : State) → InputMove (λ t. t.left.input) s.left.input (finish (made i len s).way (s.eip + len) (performed (made i len s) s))
+  finish_input i len s =
+      let t : State = performed (made i len s) s in
+      finish_holds (InputMove (λ u. u.left.input) s.left.input) (made i len s).way (s.eip + len) t (λ e h. tt) (λ a. settled_input s.left.input [] (at_address a t) refl) (settled_input s.left.input [] t refl)
+      (λ a. called_input s.left.input (system_call (request_of t.cpu) t.memory t.left) (at_address a t) (calls.leave_input (request_of t.cpu) t.memory t.left))
+
+  machine_input : (code : Code) (s : State) → InputMove (λ t. t.left.input) s.left.input (machine code s)
+  machine_input code s = marked_input s.eip s.left.input (next code s) (next_holds (InputMove (λ t. t.left.input) s.left.input) code s tt (λ i len. step_holds (InputMove (λ t. t.left.input) s.left.input) i len s tt (finish_input i len s)))
+
+  pub input_reached : MoveLaws State → (code : Code) (s t : State) (n : ℕ) (ls : List Label) → Reaches (machine code) s n ls t → t.left.input ≡ input_left s.left.input ls
+  input_reached moves code s t n ls r = moves.input_reached (machine code) (λ u. u.left.input) (machine_input code) s n ls t r

@@ -4,7 +4,8 @@ use Rattle.std.specs.Option.{option_map}
 use Rattle.std.proofs.lemmas.Bool.{lt-ltb}
 use Rattle.x86_values.specs.declared.byte.Byte.{Byte}
 use Rattle.x86_values.specs.declared.byte.Byte.TheVariants.{Unspecified}
-use Rattle.x86_values.specs.Words.{word_of, known}
+use Rattle.x86_values.specs.Words.{known}
+use Rattle.x86_values.specs.WordLaws.{WordLaws}
 use Rattle.outside.specs.Environment.{Environment}
 use Rattle.traces.specs.Trace.{Label, Move, Stand, Go, Halt}
 use Rattle.image.specs.declared.image.Image.{Image}
@@ -19,13 +20,6 @@ use Rattle.x86_meaning.specs.Step.{State, settled, at_address, request_of, after
 use Rattle.x86_meaning.specs.Run.{first_registers, start_over, start_of, IsStart}
 use Rattle.x86_meaning.specs.StepLaws.{IsForgotten}
 use Rattle.x86_meaning.proofs.Cases.{made, settled_holds, finish_holds, step_holds, next_holds}
-
--- the number of a word
-pub known-word_of : (n : ℕ) → n < 2 ^ 32 → known (word_of n) ≡ Some n
-unfolding known word_of
-known-word_of n h =
-    let e : n % 256 + 256 * (n / 256 % 256) + 65536 * (n / 65536 % 256) + 16777216 * (n / 16777216 % 256) ≡ n = omega arith in
-    ap (λ x. Some x) e
 
 -- what holds of the state to which a move goes, if it goes on
 abbrev pub Reaches : (State → Type 0) → Move State → Type 0
@@ -103,10 +97,10 @@ start_place true u b o p l k h s =
     let e : x ≡ p = cc in
     sym (ap (λ (y : Place). y.byte) e) ∙ ap (λ y. cond y Unspecified b) l
 
-pub start_is_forgotten : (image : Image) (esp0 : ℕ) (stack : List ℕ) (left : Environment) → IsStart esp0 stack → IsForgotten (start_of image esp0 stack left)
+pub start_is_forgotten : WordLaws → (image : Image) (esp0 : ℕ) (stack : List ℕ) (left : Environment) → IsStart esp0 stack → IsForgotten (start_of image esp0 stack left)
 unfolding start_over with_stack memory_of
-start_is_forgotten image esp0 stack left h = record {
+start_is_forgotten words image esp0 stack left h = record {
   esp = esp0;
-  is_esp = known-word_of esp0 (omega (arith, h.within, h.at_least));
+  is_esp = words.known_word esp0 (omega (arith, h.within, h.at_least));
   below = λ a p l e s. start_place _ (ltb a esp0) _ _ p (lt-ltb a esp0 l) (image_place a (segment_at image a) p) e s;
 }

@@ -1,5 +1,6 @@
 -- The equations of steps, and the stores of effects.
-use Rattle.std.proofs.Common.{◌≡◌, ℕ, ◌+◌, List, [], ◌∷◌, ◌++◌, map, length, take, Option, Some, None, refl, ap}
+use Rattle.std.proofs.Common.{◌≡◌, ◌≢◌, ℕ, ◌+◌, ◌==◌, List, [], ◌∷◌, ◌++◌, map, length, take, Option, Some, None, refl, ap}
+use Rattle.std.proofs.lemmas.Bool.{eq-eqb, ne_eqb, cond-true, cond-false}
 use Rattle.x86_values.specs.declared.word.Word.{Word}
 use Rattle.x86_values.specs.Words.{word_of, word_list, padded}
 use Rattle.traces.specs.Trace.{Stand, Outside}
@@ -14,7 +15,7 @@ use Rattle.x86_types.specs.declared.instr.Instr.{Instr}
 use Rattle.x86_types.specs.declared.instr.Instr.TheVariants as instr
 use Rattle.x86_types.specs.Numbers.{number_of_reg, size_of}
 use Rattle.x86_code.specs.Code.{Code}
-use Rattle.x86_meaning.specs.Registers.{Processor, Naming}
+use Rattle.x86_meaning.specs.Registers.{Registers, Processor, Naming, with_register}
 use Rattle.x86_meaning.specs.Operands.{Location, InRegister, InMemory, Immediate, access, location_of, source_of, value_in}
 use Rattle.x86_meaning.specs.Effect.{move_accesses, move_effect, accesses, effect}
 use Rattle.x86_meaning.specs.Step.{State, at_address, settled, request_of, after_call, finish, step, step_at, next}
@@ -39,6 +40,14 @@ at_instruction code s i len h = ap (λ o. step_at o s) h
 pub at_none : (code : Code) (s : State) → code s.eip ≡ None → next code s ≡ Stand [] Outside
 unfolding next
 at_none code s h = ap (λ o. step_at o s) h
+
+pub set_there : (n : ℕ) (w : Word) (regs : Registers) → with_register n w regs n ≡ w
+unfolding with_register
+set_there n w regs = cond-true (n == n) w (regs n) (eq-eqb n n refl)
+
+pub set_elsewhere : (n : ℕ) (w : Word) (regs : Registers) (k : ℕ) → k ≢ n → with_register n w regs k ≡ regs k
+unfolding with_register
+set_elsewhere n w regs k h = cond-false (k == n) w (regs k) (ne_eqb k n h)
 
 -- ---- what is stored
 stored_size : (w : Width) (x : Word) → length (take (size_of w) (word_list x)) ≡ size_of w

@@ -3,7 +3,7 @@ use Rattle.std.specs.Prelude.{◌≡◌, ℕ, ◌+◌, ◌%◌, ◌<◌, ◌≤�
 use Rattle.outside.specs.Environment.{Environment}
 use Rattle.x86_values.specs.declared.word.Flags.{Flags}
 use Rattle.x86_values.specs.Words.{word_of}
-use Rattle.traces.specs.Trace.{Behaviour, run}
+use Rattle.traces.specs.Trace.{Move, Behaviour, run}
 use Rattle.traces.specs.Machines.{turned}
 use Rattle.image.specs.declared.image.Image.{Image}
 use Rattle.memory.specs.Memory.{Memory, memory_of, with_stack}
@@ -39,10 +39,13 @@ pub record IsStart (esp0 : ℕ) (stack : List ℕ) : Type 0 where
   pub bytes : All (λ b. b < 256) stack
   pub within : esp0 + length stack ≤ 0xFFFFE000
 
--- What is seen of the run of some instructions from a state. Each step is a turn at the address of its instruction, so a
--- run that is cut earlier is this run with an earlier stop.
+-- the machine of some instructions, each of whose steps is a turn at the address of its instruction
+abbrev pub machine : Code → State → Move State
+machine code = turned (λ t. t.eip) (next code)
+
+-- What is seen of their run from a state. A run that is cut earlier is this run with an earlier stop.
 unfoldable pub run_from : Code → State → Behaviour
-run_from code s = run (turned (λ t. t.eip) (next code)) s
+run_from code s = run (machine code) s
 
 -- the run of an image
 abbrev pub run_of : Image → ℕ → List ℕ → Environment → Behaviour

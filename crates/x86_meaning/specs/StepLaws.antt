@@ -1,6 +1,7 @@
 -- The laws of a step, and of the states before and after it.
-use Rattle.std.specs.Prelude.{◌≡◌, ℕ, ◌+◌, ◌<◌, true, List, [], ◌∷◌, map, length, Option, Some, None}
+use Rattle.std.specs.Prelude.{◌≡◌, ◌≢◌, ℕ, ◌+◌, ◌<◌, true, List, [], ◌∷◌, map, length, Option, Some, None}
 use Rattle.x86_values.specs.declared.byte.Byte.TheVariants.{Unspecified}
+use Rattle.x86_values.specs.declared.word.Word.{Word}
 use Rattle.x86_values.specs.Words.{word_of, known, IsWord}
 use Rattle.outside.specs.Environment.{Environment, IsEnvironment}
 use Rattle.traces.specs.Trace.{Label, Move, Stand, Go, Outside}
@@ -69,10 +70,13 @@ with_moved n w a s = at_address a (record s { cpu = record s.cpu { regs = with_r
 pub record StepLaws : Type 0 where
   -- MOV of a constant to a register
   pub move : (to : Reg) (from len : ℕ) (s : State) → step (Mov Four (rm.Reg to) (src.Imm from)) len s ≡ settled [] (with_moved (number_of_reg to) from (s.eip + len) s)
-  -- JMP by a distance
+  -- JMP by a distance from the next instruction
   pub jump : (by len : ℕ) (s : State) → step (Jmp by) len s ≡ settled [] (at_address (s.eip + len + by) s)
   -- INT 80h
   pub call : (len : ℕ) (s : State) → step Int80 len s ≡ after_call (system_call (request_of s.cpu) s.memory s.left) (at_address (s.eip + len) s)
+  -- a register that is set, and the others
+  pub set_there : (n : ℕ) (w : Word) (regs : Registers) → with_register n w regs n ≡ w
+  pub set_elsewhere : (n : ℕ) (w : Word) (regs : Registers) (k : ℕ) → k ≢ n → with_register n w regs k ≡ regs k
   -- the machine steps by the instruction that stands there, and stands where none does
   pub at_instruction : (code : Code) (s : State) (i : Instr) (len : ℕ) → code s.eip ≡ Some (i, len) → next code s ≡ step i len s
   pub at_none : (code : Code) (s : State) → code s.eip ≡ None → next code s ≡ Stand [] Outside

@@ -6,7 +6,8 @@ ghost use Rattle.x86_meaning.specs.Step.{State};
 ghost use Rattle.x86_meaning.specs.StepLaws.{StateLaws, StepLaws};
 
 use memory::{call_laws, memory_laws};
-use traces::{States, machine_laws_of};
+use traces::{States, move_laws, run_laws};
+use x86_values::word_laws;
 
 /// Names the states of the machine.
 pub struct Meaning;
@@ -26,6 +27,7 @@ pub fn step_laws()
 pub fn state_laws()
     ensures { StateLaws }
 {
+    word_laws();
     memory_laws();
     call_laws();
 }
@@ -36,7 +38,8 @@ pub fn program_laws()
     ensures { ProgramLaws }
 {
     call_laws();
-    machine_laws_of::<Meaning>();
+    run_laws::<Meaning>();
+    move_laws::<Meaning>();
 }
 
 /// Does nothing: its clause is worked runs of system calls and jumps, computed, and starts and environments at their bounds.

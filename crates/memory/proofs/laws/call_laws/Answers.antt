@@ -7,4 +7,5 @@ returns c = record {
   same_in_is_buffer = calls.same_in_is_buffer;
   are_plain = calls.are_plain;
   keep_environment = calls.keep_environment;
+  leave_input = calls.leave_input;
 }

@@ -4,9 +4,9 @@ use Rattle.x86_meaning.proofs.laws.state_laws.Goals as goal
 
 pub returns : goal.returns
 returns c = record {
-  start_is_forgotten = states.start_is_forgotten;
+  start_is_forgotten = states.start_is_forgotten c.word_laws.ensures;
   step_forgets = states.step_forgets c.memory_laws.ensures;
   step_keeps_kinds = states.step_keeps_kinds c.memory_laws.ensures;
-  start_is_of_bytes = bytes.start_is_of_bytes c.memory_laws.ensures;
-  step_keeps_bytes = bytes.step_keeps_bytes c.memory_laws.ensures c.call_laws.ensures;
+  start_is_of_bytes = bytes.start_is_of_bytes c.word_laws.ensures c.memory_laws.ensures;
+  step_keeps_bytes = bytes.step_keeps_bytes c.word_laws.ensures c.memory_laws.ensures c.call_laws.ensures;
 }
