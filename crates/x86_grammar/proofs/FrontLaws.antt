@@ -208,6 +208,10 @@ int_none n rest h =
     let x = numbers_there row.Int80 no_counts 192 0 0 bytes (omega arith) in
     ap (found_front (suc (length bytes))) (rw (other_int n h) at x)
 
+ud2_none : (rest : List ℕ) → front (0x0F ∷ 0x0B ∷ rest) ≡ None
+unfolding front entry_of numbers plain_at after_opcode after_escape at_opcode read_from
+ud2_none rest = refl
+
 pub front_equations : FrontEquations
 unfolding front entry_of numbers plain_at after_opcode at_opcode read_from
 front_equations = record {
@@ -222,6 +226,7 @@ front_equations = record {
   other_int = int_none;
   int_cut = refl;
   hlt = λ rest. refl;
+  ud2 = ud2_none;
 }
 
 bytes_le : (k v : ℕ) → AreBytes (le k v)

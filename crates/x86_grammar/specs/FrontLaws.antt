@@ -43,7 +43,7 @@ pub record FrontIsSpelling : Type 0 where
   -- its own bytes alone give it
   pub own_bytes : (bytes : List ℕ) (i : Instr) (len : ℕ) → AreAllBytes bytes → front bytes ≡ Some (i, len) → front (take len bytes) ≡ Some (i, len)
 
--- The values at B8 to BF, E9, EB, CD and F4, whatever stands behind. Intel SDM volume 2, "MOV", "JMP", "INT n", "HLT".
+-- The values at B8 to BF, E9, EB, CD, F4 and 0F 0B, whatever stands behind. Intel SDM volume 2, "MOV", "JMP", "INT n", "HLT", "UD".
 pub record FrontEquations : Type 0 where
   pub nothing : front [] ≡ None
   -- B8+r and four bytes, lowest first
@@ -59,8 +59,9 @@ pub record FrontEquations : Type 0 where
   pub int80 : (rest : List ℕ) → front (0xCD ∷ 0x80 ∷ rest) ≡ Some (instr.Int80, 2)
   pub other_int : (n : ℕ) (rest : List ℕ) → n ≢ 0x80 → front (0xCD ∷ n ∷ rest) ≡ None
   pub int_cut : front (0xCD ∷ []) ≡ None
-  -- F4 is not in the list
+  -- F4 and 0F 0B (UD2) are not in the list
   pub hlt : (rest : List ℕ) → front (0xF4 ∷ rest) ≡ None
+  pub ud2 : (rest : List ℕ) → front (0x0F ∷ 0x0B ∷ rest) ≡ None
 
 -- Numbers as bytes, lowest first, and back.
 pub record LittleEndianLaws : Type 0 where
