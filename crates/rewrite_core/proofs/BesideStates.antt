@@ -1,133 +1,138 @@
--- Two states beside each other: at places of their own, the memory of the second having more in a range. Each instruction
--- has one lemma here; where the places stand is a relation that its user chooses.
-use Rattle.std.proofs.Common.{◌≡◌, ℕ, ◌+◌, ◌%◌, ◌^◌, ◌<◌, Bool, true, false, List, [], length, set, get_or, Option, Some, None, refl, sym, ap, ◌∙◌, subst, inl, inr, arith}
-use Rattle.std.proofs.lemmas.List.{get_or-set_same, get_or-set_other, set_past}
+-- Steps of two states beside each other. Each instruction has one lemma; how the addresses are related is its user's.
+use Rattle.std.proofs.Common.{◌≡◌, ◌↔◌, ℕ, ◌+◌, ◌^◌, ◌<◌, Bool, true, false, List, [], Option, Some, None, refl, sym, ap, ◌∙◌, subst, inl, inr, arith}
 use Rattle.std.proofs.lemmas.Bool.Decides.{eqb_tells, leb_tells}
 use Rattle.x86_values.specs.declared.byte.Byte.TheVariants.{Unspecified as unspecified}
 use Rattle.x86_values.specs.declared.word.Word.{Word}
 use Rattle.x86_values.specs.Words.{word_of, known}
-use Rattle.traces.specs.Trace.{Label, Unspecified, Outside, Go}
+use Rattle.x86_values.specs.WordLaws.{WordLaws}
+use Rattle.traces.specs.Trace.{Label, End, Exited, MemoryFault, DivideFault, Outside, OtherCall, Unspecified, Guard, Stopped, Move, Stand, Go, Halt}
+use Rattle.traces.specs.Agree.{outside}
+use Rattle.memory.specs.Memory.{Place, Memory, wrapped, store_all, forgotten, forget_below}
+use Rattle.memory.specs.MemoryLaws.{MemoryLaws}
+use Rattle.memory.specs.CallLaws.{CallLaws, is_own_end, IsPlainCall}
+use Rattle.memory.specs.SystemCall.{Called, Ends, Gives, system_call}
 use Rattle.x86_types.specs.declared.operand.Reg.{Reg}
 use Rattle.x86_types.specs.declared.instr.Instr.{Instr}
 use Rattle.x86_types.specs.declared.instr.Instr.TheVariants.{Jmp, Int80}
-use Rattle.x86_meaning.specs.declared.state.Cpu.{Cpu}
 use Rattle.x86_types.specs.Numbers.{number_of_reg}
-use Rattle.x86_meaning.specs.Spells.{mov_word}
-use Rattle.x86_meaning.specs.Memory.{Place, Memory, forgotten, forget_below}
-use Rattle.x86_meaning.specs.SystemCall.{Called}
-use Rattle.x86_meaning.specs.Step.{State, Code, zero_word, reg_at, with_reg, with_eip, with_cpu, settled_by, settled, request_of, after_call, step, step_at, next}
-use Rattle.x86_meaning.specs.StateLaws.{IsForgotten}
-use Rattle.rewrite_core.specs.Agreement.{IsAdded}
-use Rattle.rewrite_core.proofs.LawsBelow.{MemoryLaws}
-use Rattle.rewrite_core.proofs.Lockstep.{Alike, stands, goes, halts}
-use Rattle.rewrite_core.proofs.Added.{Away, CallsAlike, ends, gives, added_forget, system_alike}
+use Rattle.x86_code.specs.Code.{Code}
+use Rattle.x86_meaning.specs.Registers.{Registers, with_register}
+use Rattle.x86_meaning.specs.Step.{State, at_address, settled_by, settled, request_of, with_result, after_call, step, next}
+use Rattle.x86_meaning.specs.StepLaws.{IsForgotten, StepLaws, StateLaws, with_moved}
+use Rattle.x86_meaning.specs.RunLaws.{ProgramLaws}
+use Rattle.x86_grammar.specs.Fields.{fields_fit, HasSpelling}
+use Rattle.x86_grammar.specs.FrontLaws.{FrontEquations, FrontIsSpelling, LittleEndianLaws}
+use Rattle.rewrite_core.specs.Met.{mov_word}
+use Rattle.rewrite_core.specs.Agreement.{HasMore}
+use Rattle.rewrite_core.specs.Beside.{Away, IsAway, beside, Beside}
+use Rattle.rewrite_core.proofs.MoreMemory.{more_forget, more_stored, same_call}
 
--- a processor at another place, and a state at another place with another memory
-abbrev pub cpu_at : ℕ → Cpu → Cpu
-cpu_at a cpu = record { regs = cpu.regs; flags = cpu.flags; eip = a }
+-- what the lemmas take from the crates below
+pub record LawsBelow : Type 0 where
+  pub words : WordLaws
+  pub memory : MemoryLaws
+  pub calls : CallLaws
+  pub steps : StepLaws
+  pub states : StateLaws
+  pub programs : ProgramLaws
+  pub spelling : FrontIsSpelling
+  pub equations : FrontEquations
+  pub numbers : LittleEndianLaws
+  pub fields : (i : Instr) → (fields_fit i ≡ true) ↔ HasSpelling i
 
-abbrev pub beside : ℕ → Memory → State → State
-beside a m s = record { cpu = cpu_at a s.cpu; memory = m; left = s.left }
+-- two moves with the same labels: to states that are related, or to one end, which no guard event is
+pub data Alike (R : State → State → Type 0) : Move State → Move State → Type 0 where
+  stands : (ls : List Label) → (e : End) → outside e ≡ e → Alike R (Stand ls e) (Stand ls e)
+  goes : (ls : List Label) → (s t : State) → R s t → Alike R (Go ls s) (Go ls t)
+  halts : (ls : List Label) → (e : End) → outside e ≡ e → Alike R (Halt ls e) (Halt ls e)
 
--- a word that is known, if it is, as an address outside [low, high)
-abbrev pub IsAway : ℕ → ℕ → Word → Type 0
-IsAway low high w = (a : ℕ) → known w ≡ Some a → Away low high a
-
--- all registers and flags are the same, and what is left of the outside; a buffer of a call begins outside the range
-pub record Beside (low high : ℕ) (Places : ℕ → ℕ → Type 0) (s t : State) : Type 0 where
-  pub same : beside t.cpu.eip t.memory s ≡ t
-  pub places : Places s.cpu.eip t.cpu.eip
-  pub memory : IsAdded low high s.memory t.memory
-  pub buffer : IsAway low high (reg_at s.cpu 1)
+own_outside : (e : End) → is_own_end e ≡ true → outside e ≡ e
+own_outside (Exited status) h = refl
+own_outside MemoryFault h = refl
+own_outside DivideFault h = refl
+own_outside Outside h = refl
+own_outside (OtherCall number) h = refl
+own_outside Unspecified h = refl
+own_outside (Guard k a) h = cc
+own_outside (Stopped a) h = cc
 
 -- a register after one is set is what was set, or what it was
-set_either : (P : Word → Type 0) (ws : List Word) (i j : ℕ) (w d : Word) → P w → P (get_or ws j d) → P (get_or (set ws i w) j d)
-set_either P ws i j w d p q = elim (eqb_tells j i) [
-  | inr other ↦ subst P (sym (get_or-set_other ws i j w d other.1)) q
-  | inl same ↦
-      let here : j ≡ i = same.1 in
-      elim (leb_tells (length ws) i) [
-        | inl past ↦ subst (λ (xs : List Word). P (get_or xs j d)) (sym (set_past ws i w past.1)) q
-        | inr within ↦ subst (λ (k : ℕ). P (get_or (set ws i w) k d)) (sym here) (subst P (sym (get_or-set_same ws i w d within.1)) p)
-      ]
+set_either : StepLaws → (P : Word → Type 0) (regs : Registers) (i j : ℕ) (w : Word) → P w → P (regs j) → P (with_register i w regs j)
+set_either laws P regs i j w p q = elim (eqb_tells j i) [
+  | inr other ↦ subst P (sym (laws.set_elsewhere i w regs j other.1)) q
+  | inl same ↦ subst (λ (k : ℕ). P (with_register i w regs k)) (sym same.1) (subst P (sym (laws.set_there i w regs)) p)
 ]
 
-pub known_word : (n : ℕ) → n < 2 ^ 32 → known (word_of n) ≡ Some n
-unfolding known word_of
-known_word n h = ap Some (omega arith)
-
-pub constant_away : (low high n : ℕ) → n < 2 ^ 32 → Away low high n → IsAway low high (word_of n)
-constant_away low high n below h a e =
-    let same : n ≡ a = let f : Some n ≡ Some a = sym (known_word n below) ∙ e in cc in
+pub constant_away : WordLaws → (low high n : ℕ) → n < 2 ^ 32 → Away low high n → IsAway low high (word_of n)
+constant_away laws low high n below h a e =
+    let same : n ≡ a = let f : Some n ≡ Some a = sym (laws.known_word n below) ∙ e in cc in
     subst (Away low high) same h
 
-module _ (laws : MemoryLaws) (low high : ℕ) (Places : ℕ → ℕ → Type 0) where
-  abbrev Pair : State → State → Type 0
-  Pair s t = Beside low high Places s t
+module _ (laws : LawsBelow) (low high : ℕ) (Places : ℕ → ℕ → Type 0) where
+  abbrev Two : State → State → Type 0
+  Two s t = Beside low high Places s t
 
   -- what is forgotten after a step
-  settled_alike : (ls : List Label) (s : State) (a : ℕ) (m : Memory) → Places s.cpu.eip a → IsAdded low high s.memory m → IsAway low high (reg_at s.cpu 1) → Alike Pair (settled ls s) (settled ls (beside a m s))
+  settled_alike : (ls : List Label) (s : State) (a : ℕ) (m : Memory) → Places s.eip a → HasMore low high s.memory m → IsAway low high (s.cpu.regs 1) → Alike Two (settled ls s) (settled ls (beside a m s))
   unfolding settled
-  settled_alike ls s a m places memory buffer = cases (known (reg_at s.cpu 4))
+  settled_alike ls s a m places memory buffer = cases (known (s.cpu.regs 4))
     where
-      cases : (o : Option ℕ) → Alike Pair (settled_by o ls s) (settled_by o ls (beside a m s))
+      cases : (o : Option ℕ) → Alike Two (settled_by o ls s) (settled_by o ls (beside a m s))
       cases None = halts ls Unspecified refl
-      cases (Some esp) = goes ls _ _ (record { same = refl; places = places; memory = added_forget laws low high s.memory m esp memory; buffer = buffer })
+      cases (Some esp) = goes ls _ _ (record { same = refl; places = places; memory = more_forget low high s.memory m memory laws.memory esp; buffer = buffer })
 
-  -- MOV of a constant that is no address in the range
-  mov_beside : (to : Reg) (from len : ℕ) (s : State) (a : ℕ) (m : Memory) → Places ((s.cpu.eip + len) % 4294967296) ((a + len) % 4294967296) → IsAdded low high s.memory m → IsAway low high (reg_at s.cpu 1) → IsAway low high (word_of from)
-      → Alike Pair (step (mov_word to from) len s) (step (mov_word to from) len (beside a m s))
-  unfolding step
-  mov_beside to from len s a m places memory buffer constant =
-      settled_alike [] (with_cpu (with_reg (number_of_reg to) (word_of from) (with_eip (s.cpu.eip + len) s.cpu)) s) ((a + len) % 4294967296) m places memory
-      (set_either (IsAway low high) s.cpu.regs (number_of_reg to) 1 (word_of from) zero_word constant buffer)
+  module _ (s : State) (a : ℕ) (m : Memory) (memory : HasMore low high s.memory m) (buffer : IsAway low high (s.cpu.regs 1)) where
+    -- MOV of a constant that is no address in the range
+    mov_beside : (to : Reg) (from len : ℕ) → Places (wrapped (s.eip + len)) (wrapped (a + len)) → IsAway low high (word_of from) → Alike Two (step (mov_word to from) len s) (step (mov_word to from) len (beside a m s))
+    mov_beside to from len places constant =
+        let n : ℕ = number_of_reg to in
+        rw (laws.steps.move to from len s, laws.steps.move to from len (beside a m s))
+        (settled_alike [] (with_moved n from (s.eip + len) s) (wrapped (a + len)) m places memory (set_either laws.steps (IsAway low high) s.cpu.regs n 1 (word_of from) constant buffer))
 
-  -- a jump, by one distance here and by another there
-  jump_beside : (by len by' len' : ℕ) (s : State) (a : ℕ) (m : Memory) → Places ((s.cpu.eip + len + by) % 4294967296) ((a + len' + by') % 4294967296) → IsAdded low high s.memory m → IsAway low high (reg_at s.cpu 1)
-      → Alike Pair (step (Jmp by) len s) (step (Jmp by') len' (beside a m s))
-  unfolding step
-  jump_beside by len by' len' s a m places memory buffer =
-      settled_alike [] (with_cpu (with_eip (s.cpu.eip + len + by) s.cpu) s) ((a + len' + by') % 4294967296) m places memory buffer
+    -- a jump, by one distance here and by another there
+    jump_beside : (by len by' len' : ℕ) → Places (wrapped (s.eip + len + by)) (wrapped (a + len' + by')) → Alike Two (step (Jmp by) len s) (step (Jmp by') len' (beside a m s))
+    jump_beside by len by' len' places =
+        rw (laws.steps.jump by len s, laws.steps.jump by' len' (beside a m s)) (settled_alike [] (at_address (s.eip + len + by) s) (wrapped (a + len' + by')) m places memory buffer)
 
-  after_alike : (x y : Called) (cpu : Cpu) (a : ℕ) → CallsAlike low high x y → Places cpu.eip a → IsAway low high (reg_at cpu 1) → Alike Pair (after_call x cpu) (after_call y (cpu_at a cpu))
-  after_alike _ _ cpu a (ends e h) places buffer = halts [] e h
-  after_alike _ _ cpu a (gives ls result m n left h) places buffer =
-      settled_alike ls (record { cpu = with_reg 0 (word_of result) cpu; memory = m; left = left }) a n places h
-      (subst (IsAway low high) (sym (get_or-set_other cpu.regs 0 1 (word_of result) zero_word (λ e. omega (arith, e)))) buffer)
+    after_alike : (x : Called) (b c : ℕ) → IsPlainCall x → Places (wrapped b) (wrapped c) → Alike Two (after_call x (at_address b s)) (after_call x (at_address c (beside a m s)))
+    after_alike (Ends e) b c own places = halts [] e (own_outside e own)
+    after_alike (Gives ls result stores left) b c own places =
+        settled_alike ls (record { cpu = with_result result s.cpu; eip = wrapped b; memory = store_all stores s.memory; left = left }) (wrapped c) (store_all stores m) places
+        (more_stored laws.memory low high stores s.memory m memory)
+        (subst (IsAway low high) (sym (laws.steps.set_elsewhere 0 (word_of result) s.cpu.regs 1 (λ e. omega (arith, e)))) buffer)
 
-  -- a system call
-  call_beside : (len : ℕ) (s : State) (a : ℕ) (m : Memory) → Places ((s.cpu.eip + len) % 4294967296) ((a + len) % 4294967296) → IsAdded low high s.memory m → IsAway low high (reg_at s.cpu 1)
-      → Alike Pair (step Int80 len s) (step Int80 len (beside a m s))
-  unfolding step
-  call_beside len s a m places memory buffer =
-      after_alike _ _ (with_eip (s.cpu.eip + len) s.cpu) ((a + len) % 4294967296) (system_alike laws low high s.memory m memory (request_of s.cpu) s.left buffer) places buffer
+    -- a system call
+    call_beside : (len : ℕ) → Places (wrapped (s.eip + len)) (wrapped (a + len)) → Alike Two (step Int80 len s) (step Int80 len (beside a m s))
+    call_beside len places =
+        let q = request_of s.cpu in
+        let same = same_call laws.calls low high s.memory m memory q s.left buffer in
+        rw (laws.steps.call len s, laws.steps.call len (beside a m s))
+        (subst (λ (x : Called). Alike Two (after_call (system_call q s.memory s.left) (at_address (s.eip + len) s)) (after_call x (at_address (a + len) (beside a m s)))) same
+        (after_alike (system_call q s.memory s.left) (s.eip + len) (a + len) (laws.calls.are_plain q s.memory s.left) places))
 
-  -- what stands at the two places: the same instruction, or none, or two jumps
-  abbrev StepsAlike : Option (Instr × ℕ) → Option (Instr × ℕ) → State → State → Type 0
-  StepsAlike o o' s t = Alike Pair (step_at o s) (step_at o' t)
+  -- what stands at the two addresses: the same instruction, or none, or two jumps
+  pub none_alike : (old new : Code) (s t : State) → old s.eip ≡ None → new t.eip ≡ None → Alike Two (next old s) (next new t)
+  none_alike old new s t p q = rw (laws.steps.at_none old s p, laws.steps.at_none new t q) (stands [] Outside refl)
 
-  pub none_alike : (s t : State) → StepsAlike None None s t
-  none_alike s t = stands [] Outside refl
+  both_step : (old new : Code) (s t : State) (i j : Instr) (k l : ℕ) → old s.eip ≡ Some (i, k) → new t.eip ≡ Some (j, l) → Alike Two (step i k s) (step j l t) → Alike Two (next old s) (next new t)
+  both_step old new s t i j k l p q h = rw (laws.steps.at_instruction old s i k p, laws.steps.at_instruction new t j l q) h
 
-  pub mov_alike : (to : Reg) (from len : ℕ) (s t : State) → Pair s t → Places ((s.cpu.eip + len) % 4294967296) ((t.cpu.eip + len) % 4294967296) → IsAway low high (word_of from) → StepsAlike (Some (mov_word to from, len)) (Some (mov_word to from, len)) s t
-  mov_alike to from len s t p places constant =
-      subst (λ (u : State). StepsAlike (Some (mov_word to from, len)) (Some (mov_word to from, len)) s u) p.same (mov_beside to from len s t.cpu.eip t.memory places p.memory p.buffer constant)
+  module _ (old new : Code) (s t : State) (memory : HasMore low high s.memory t.memory) (buffer : IsAway low high (s.cpu.regs 1)) (same : beside t.eip t.memory s ≡ t) where
+    pub mov_alike : (to : Reg) (from len : ℕ) → old s.eip ≡ Some (mov_word to from, len) → new t.eip ≡ Some (mov_word to from, len) → Places (wrapped (s.eip + len)) (wrapped (t.eip + len)) → IsAway low high (word_of from) → Alike Two (next old s) (next new t)
+    mov_alike to from len p q places constant =
+        both_step old new s t (mov_word to from) (mov_word to from) len len p q
+        (subst (λ (u : State). Alike Two (step (mov_word to from) len s) (step (mov_word to from) len u)) same (mov_beside s t.eip t.memory memory buffer to from len places constant))
 
-  pub call_alike : (len : ℕ) (s t : State) → Pair s t → Places ((s.cpu.eip + len) % 4294967296) ((t.cpu.eip + len) % 4294967296) → StepsAlike (Some (Int80, len)) (Some (Int80, len)) s t
-  call_alike len s t p places =
-      subst (λ (u : State). StepsAlike (Some (Int80, len)) (Some (Int80, len)) s u) p.same (call_beside len s t.cpu.eip t.memory places p.memory p.buffer)
+    pub call_alike : (len : ℕ) → old s.eip ≡ Some (Int80, len) → new t.eip ≡ Some (Int80, len) → Places (wrapped (s.eip + len)) (wrapped (t.eip + len)) → Alike Two (next old s) (next new t)
+    call_alike len p q places =
+        both_step old new s t Int80 Int80 len len p q (subst (λ (u : State). Alike Two (step Int80 len s) (step Int80 len u)) same (call_beside s t.eip t.memory memory buffer len places))
 
-  pub jump_alike : (by len by' len' : ℕ) (s t : State) → Pair s t → Places ((s.cpu.eip + len + by) % 4294967296) ((t.cpu.eip + len' + by') % 4294967296) → StepsAlike (Some (Jmp by, len)) (Some (Jmp by', len')) s t
-  jump_alike by len by' len' s t p places =
-      subst (λ (u : State). StepsAlike (Some (Jmp by, len)) (Some (Jmp by', len')) s u) p.same (jump_beside by len by' len' s t.cpu.eip t.memory places p.memory p.buffer)
+    pub jump_alike : (by len by' len' : ℕ) → old s.eip ≡ Some (Jmp by, len) → new t.eip ≡ Some (Jmp by', len') → Places (wrapped (s.eip + len + by)) (wrapped (t.eip + len' + by')) → Alike Two (next old s) (next new t)
+    jump_alike by len by' len' p q places =
+        both_step old new s t (Jmp by) (Jmp by') len len' p q (subst (λ (u : State). Alike Two (step (Jmp by) len s) (step (Jmp by') len' u)) same (jump_beside s t.eip t.memory memory buffer by len by' len' places))
 
-  -- so both machines do the same
-  pub next_alike : (old new : Code) (s t : State) (o o' : Option (Instr × ℕ)) → old s.cpu.eip ≡ o → new t.cpu.eip ≡ o' → StepsAlike o o' s t → Alike Pair (next old s) (next new t)
-  unfolding next
-  next_alike old new s t o o' p q h = rw (p, q) h
-
--- the places of two states may be related otherwise
-pub at_places : (low high : ℕ) (P Q : ℕ → ℕ → Type 0) (s t : State) → Beside low high P s t → Q s.cpu.eip t.cpu.eip → Beside low high Q s t
+-- the addresses of two states may be related otherwise
+pub at_places : (low high : ℕ) (P Q : ℕ → ℕ → Type 0) (s t : State) → Beside low high P s t → Q s.eip t.eip → Beside low high Q s t
 at_places low high P Q s t p places = record { same = p.same; places = places; memory = p.memory; buffer = p.buffer }
 
 -- ---- one more jump of the second
@@ -147,26 +152,23 @@ forgotten_stays laws t f a = elim (leb_tells f.esp a) [
 ]
 
 abbrev pub jumped : (t : State) → IsForgotten t → ℕ → State
-jumped t f a = record { cpu = with_eip a t.cpu; memory = forget_below f.esp t.memory; left = t.left }
+jumped t f a = beside (wrapped a) (forget_below f.esp t.memory) t
 
-pub jump_goes : (new : Code) (t : State) (f : IsForgotten t) (by len : ℕ) → new t.cpu.eip ≡ Some (Jmp by, len) → next new t ≡ Go [] (jumped t f (t.cpu.eip + len + by))
-unfolding next step settled
-jump_goes new t f by len e =
-    let at : State = with_cpu (with_eip (t.cpu.eip + len + by) t.cpu) t in
-    ap (λ (o : Option (Instr × ℕ)). step_at o t) e ∙ ap (λ (o : Option ℕ). settled_by o [] at) f.is_esp
+pub jump_goes : StepLaws → (new : Code) (t : State) (f : IsForgotten t) (by len : ℕ) → new t.eip ≡ Some (Jmp by, len) → next new t ≡ Go [] (jumped t f (t.eip + len + by))
+unfolding settled
+jump_goes laws new t f by len e =
+    laws.at_instruction new t (Jmp by) len e ∙ laws.jump by len t ∙ ap (λ (o : Option ℕ). settled_by o [] (at_address (t.eip + len + by) t)) f.is_esp
 
 -- after it the second is beside the first still
-pub beside_jumped : MemoryLaws → (low high : ℕ) (P Q : ℕ → ℕ → Type 0) (s t : State) (f : IsForgotten t) (a : ℕ) → Beside low high P s t → Q s.cpu.eip (a % 4294967296) → Beside low high Q s (jumped t f a)
+pub beside_jumped : MemoryLaws → (low high : ℕ) (P Q : ℕ → ℕ → Type 0) (s t : State) (f : IsForgotten t) (a : ℕ) → Beside low high P s t → Q s.eip (wrapped a) → Beside low high Q s (jumped t f a)
 beside_jumped laws low high P Q s t f a p places = record {
-  same = ap (beside (a % 4294967296) (forget_below f.esp t.memory)) p.same;
+  same = ap (beside (wrapped a) (forget_below f.esp t.memory)) p.same;
   places = places;
   memory = record {
     free = p.memory.free;
     edge = p.memory.edge;
-    same = record {
-      below = λ k h. p.memory.same.below k h ∙ sym (forgotten_stays laws t f k);
-      above = λ k h. p.memory.same.above k h ∙ sym (forgotten_stays laws t f k);
-    };
+    below = λ k h. p.memory.below k h ∙ sym (forgotten_stays laws t f k);
+    above = λ k h. p.memory.above k h ∙ sym (forgotten_stays laws t f k);
   };
   buffer = p.buffer;
 }

@@ -4,6 +4,7 @@ use Rattle.std.proofs.lemmas.List.{length-take, length-take-le}
 use Rattle.rewrite_core.proofs.JudgedPlaces.{goes_short}
 use Rattle.std.specs.Option.{unwrap_or}
 use Rattle.std.proofs.Math.Seq.{get_or-append_seam}
+use Rattle.x86_grammar.specs.FrontLaws.{FrontEquations}
 use Rattle.rewrite_core.specs.declared.places.Judgement.{Judgement}
 use Rattle.rewrite_core.specs.declared.places.Judgement.TheVariants.{GoesOn, Jumps, Ends, LeftOut}
 use Rattle.rewrite_core.specs.declared.placing.Part.{Part}
@@ -14,7 +15,7 @@ use Rattle.rewrite_core.specs.Placing.{place_at, part_size, jump_bytes, part_cod
 use Rattle.rewrite_core.proofs.PartCodes.{length-code, has_code}
 use Rattle.rewrite_core.proofs.PlacedParts.{place_within}
 
-module _ (page code : List ℕ) (small : length page ≡ 4096) (s : Placing) (f : IsFinished page s) (is : code ≡ parts_code page (place_at s.places.items) 0 s.parts.items) where
+module _ (laws : FrontEquations) (page code : List ℕ) (small : length page ≡ 4096) (s : Placing) (f : IsFinished page s) (is : code ≡ parts_code page (place_at s.places.items) 0 s.parts.items) where
   abbrev TheTable : Table
   TheTable = place_at s.places.items
 
@@ -57,7 +58,7 @@ module _ (page code : List ℕ) (small : length page ≡ 4096) (s : Placing) (f 
 
   first_there : (j : Judgement) → judged_at page 0 ≡ j → Settled s.places.items s.parts.items s.size None 0 0 j → 1 ≤ length code
   first_there (GoesOn len) e h =
-      let short = goes_short page 0 len e (omega arith) in
+      let short = goes_short laws page 0 len e (omega arith) in
       part_there 0 (Kept 0 len) h.0 (omega (arith, short.0, short.2, length-take-le len (drop 0 page) (omega (arith, short.2, length-drop 0 page))))
   first_there (Jumps to) e h = part_there 0 (Leads to) h (omega arith)
   first_there Ends e h = part_there 0 Stops h (omega arith)

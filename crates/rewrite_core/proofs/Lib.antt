@@ -1,4 +1,4 @@
-pub mod Added
+pub mod MoreMemory
 pub mod Agreements
 pub mod BesideStates
 pub mod Chains
@@ -7,9 +7,7 @@ pub mod Followings
 pub mod Fronts
 pub mod JudgedPlaces
 pub mod LaidCode
-pub mod LawsBelow
 pub mod LayoutLemmas
-pub mod Lockstep
 pub mod Loops
 pub mod MetPlaces
 pub mod NewPlaces
@@ -20,4 +18,3 @@ pub mod PartCodes
 pub mod PlacedParts
 pub mod PlacingSteps
 pub mod PlainPage
-pub mod RunSteps

@@ -1,21 +1,23 @@
 -- Which places a run can meet: those that can be reached in the page.
-use Rattle.std.proofs.Common.{◌≡◌, ◌≢◌, ℕ, suc, ◌+◌, ◌%◌, ◌<◌, ◌≤◌, ◌&&◌, true, false, not, leb, List, length, drop, Option, Some, refl, sym, ap, ◌∙◌, subst, inl, inr, arith, length-drop}
+use Rattle.std.proofs.Common.{◌≡◌, ◌≢◌, ℕ, suc, ◌+◌, ◌%◌, ◌<◌, ◌≤◌, ◌&&◌, true, false, not, leb, List, length, drop, All, Option, Some, refl, sym, ap, ◌∙◌, subst, inl, inr, arith, length-drop}
 use Rattle.std.proofs.lemmas.Bool.Decides.{leb_tells}
+use Rattle.std.proofs.lemmas.List.Elements.{All-drop}
 use Rattle.image.specs.declared.image.Image.{Image}
 use Rattle.x86_types.specs.declared.instr.Instr.{Instr}
 use Rattle.x86_types.specs.declared.instr.Instr.TheVariants.{Jmp, Int80}
-use Rattle.x86_meaning.specs.Spells.{mov_word, front}
-use Rattle.x86_meaning.specs.Run.{code_of}
+use Rattle.x86_grammar.specs.Front.{front}
+use Rattle.x86_grammar.specs.FrontLaws.{FrontIsSpelling, FrontEquations}
+use Rattle.x86_code.specs.Code.{code_of}
 use Rattle.rewrite_core.specs.declared.places.Judgement.{Judgement}
 use Rattle.rewrite_core.specs.declared.places.Judgement.TheVariants.{GoesOn, Jumps, LeftOut}
-use Rattle.rewrite_core.specs.Met.{Met, entry, after_mov, after_call, target, IsApart, IsTaken}
+use Rattle.rewrite_core.specs.Met.{mov_word, Met, entry, after_mov, after_call, target, IsFree, IsTaken}
 use Rattle.rewrite_core.specs.Places.{is_apart, place_of, target_of, judged_at, Reached, first, on, jump, IsLeftOut, JumpsTo, Continues, StandsFor, IsLaid}
-use Rattle.rewrite_core.proofs.Fronts.{within_of, taken_first, goes_mov, goes_call, goes_jump, Stood, by_none, by_mov, by_call, by_jump, by_first, by_constant, stood_as}
+use Rattle.rewrite_core.proofs.Fronts.{taken_first, goes_mov, goes_call, goes_jump, Stood, by_none, by_mov, by_call, by_jump, by_first, by_constant, stood_as}
 use Rattle.rewrite_core.proofs.PageAddresses.{place_after, place_jumped}
 use Rattle.rewrite_core.proofs.PlainPage.{HasPage}
 
 -- the tests of a constant
-pub apart-true : (n : ℕ) → is_apart n ≡ true → IsApart n
+pub apart-true : (n : ℕ) → is_apart n ≡ true → IsFree n
 apart-true n e = elim (leb_tells 0x60000000 n) [
   | inr h ↦ inl h.1
   | inl h ↦ elim (leb_tells (suc n) 0x7C000000) [
@@ -24,7 +26,7 @@ apart-true n e = elim (leb_tells 0x60000000 n) [
   ]
 ]
 
-true-apart : (n : ℕ) → IsApart n → is_apart n ≡ true
+true-apart : (n : ℕ) → IsFree n → is_apart n ≡ true
 true-apart n (inl h) = elim (leb_tells 0x60000000 n) [ inl k ↦ absurd (omega (arith, k.1, h)) | inr k ↦ rw k.0 refl ]
 true-apart n (inr h) = elim (leb_tells 0x60000000 n) [
   | inr k ↦ rw k.0 refl
@@ -37,10 +39,11 @@ pub record IsWithin (p len : ℕ) : Type 0 where
   pub inside : p < 4096
   pub ends : p + len ≤ 4096
 
-pub stands_within : (page : List ℕ) (p : ℕ) (i : Instr) (len : ℕ) → length page ≡ 4096 → front (drop p page) ≡ Some (i, len) → IsWithin p len
-stands_within page p i len whole e =
-    let w = within_of (drop p page) i len e in
-    record { some = w.0; inside = omega (arith, w.0, w.1, length-drop p page); ends = omega (arith, w.0, w.1, length-drop p page) }
+pub stands_within : FrontIsSpelling → (page : List ℕ) (p : ℕ) (i : Instr) (len : ℕ) → length page ≡ 4096 → All (λ b. b < 256) page → front (drop p page) ≡ Some (i, len) → IsWithin p len
+stands_within spelling page p i len whole bytes e =
+    let some = spelling.some (drop p page) i len (All-drop (λ b. b < 256) p page bytes) e in
+    let there = spelling.there (drop p page) i len e in
+    record { some = omega (arith, some); inside = omega (arith, some, there, length-drop p page); ends = omega (arith, some, there, length-drop p page) }
 
 -- ---- what has a new place
 module _ (page code : List ℕ) (laid : IsLaid page code) where
@@ -61,12 +64,12 @@ module _ (page code : List ℕ) (laid : IsLaid page code) where
   jumps_placed p q to at e = let j : JumpsTo code laid.table q to = stands_for p q (Jumps to) at e in (j.to, j.at)
 
 -- ---- an image whose code is a page
-module _ (image : Image) (page : List ℕ) (has : HasPage image page) where
+module _ (spelling : FrontIsSpelling) (equations : FrontEquations) (image : Image) (page : List ℕ) (has : HasPage image page) where
   spelled_at : (a : ℕ) (o : Option (Instr × ℕ)) → code_of image a ≡ o → front (drop (place_of a) page) ≡ o
   spelled_at a o e = sym (has.stands a) ∙ e
 
   within_at : (a : ℕ) (i : Instr) (len : ℕ) → code_of image a ≡ Some (i, len) → IsWithin (place_of a) len
-  within_at a i len e = stands_within page (place_of a) i len has.whole (spelled_at a (Some (i, len)) e)
+  within_at a i len e = stands_within spelling page (place_of a) i len has.whole has.bytes (spelled_at a (Some (i, len)) e)
 
   module _ (code : List ℕ) (laid : IsLaid page code) where
     abbrev HasNew : ℕ → Type 0
@@ -85,16 +88,16 @@ module _ (image : Image) (page : List ℕ) (has : HasPage image page) where
     met_placed (after_mov {a} to from len m e) =
         let at = met_placed m in
         let left = not_left_out page code laid (place_of a) at.0 at.1 in
-        next_placed a at.0 (mov_word to from) len at.1 e (goes_mov (place_of a) (drop (place_of a) page) to from len left (spelled_at a _ e)).0
+        next_placed a at.0 (mov_word to from) len at.1 e (goes_mov equations (place_of a) (drop (place_of a) page) to from len left (spelled_at a _ e)).0
     met_placed (after_call {a} len m e) =
         let at = met_placed m in
         let left = not_left_out page code laid (place_of a) at.0 at.1 in
-        next_placed a at.0 Int80 len at.1 e (goes_call (place_of a) (drop (place_of a) page) len left (spelled_at a _ e))
+        next_placed a at.0 Int80 len at.1 e (goes_call equations (place_of a) (drop (place_of a) page) len left (spelled_at a _ e))
     met_placed (target {a} by len m e) =
         let at = met_placed m in
         let left = not_left_out page code laid (place_of a) at.0 at.1 in
         let w = within_at a (Jmp by) len e in
-        let g = goes_jump (place_of a) (drop (place_of a) page) by len left (spelled_at a _ e) in
+        let g = goes_jump equations (place_of a) (drop (place_of a) page) by len left (spelled_at a _ e) in
         let next = jumps_placed page code laid (place_of a) at.0 (target_of (place_of a + len) by) at.1 g in
         (next.0, ap laid.table (sym (place_jumped a len by w.inside)) ∙ next.1)
 
@@ -107,7 +110,7 @@ module _ (image : Image) (page : List ℕ) (has : HasPage image page) where
       apart = λ a to from len m e.
           let at = met_placed m in
           let left = not_left_out page code laid (place_of a) at.0 at.1 in
-          apart-true from (goes_mov (place_of a) (drop (place_of a) page) to from len left (spelled_at a _ e)).1;
+          apart-true from (goes_mov equations (place_of a) (drop (place_of a) page) to from len left (spelled_at a _ e)).1;
     }
 
   -- ---- what is left out
@@ -118,7 +121,7 @@ module _ (image : Image) (page : List ℕ) (has : HasPage image page) where
     place : place_of address ≡ p
 
   stood_at : (p : ℕ) (j : Judgement) (m : IsMet p) → judged_at page p ≡ j → Stood (place_of m.address) (drop (place_of m.address) page) j
-  stood_at p j m e = stood_as (place_of m.address) (drop (place_of m.address) page) j (ap (judged_at page) m.place ∙ e)
+  stood_at p j m e = stood_as equations (place_of m.address) (drop (place_of m.address) page) j (ap (judged_at page) m.place ∙ e)
 
   code_at : (a : ℕ) (o : Option (Instr × ℕ)) → front (drop (place_of a) page) ≡ o → code_of image a ≡ o
   code_at a o e = has.stands a ∙ e

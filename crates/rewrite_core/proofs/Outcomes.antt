@@ -1,5 +1,5 @@
 -- What the reading of a file and its new code say of its rewriting.
-use Rattle.std.proofs.Common.{◌≡◌, ℕ, ◌==◌, ◌&&◌, Bool, true, false, List, length, drop, get_or, min, Option, Some, None, Ok, Err, refl, sym, ◌∙◌, inl, inr, arith, length-drop, length-take}
+use Rattle.std.proofs.Common.{◌≡◌, ℕ, ◌<◌, ◌==◌, ◌&&◌, Bool, true, false, List, length, drop, get_or, min, All, Option, Some, None, Ok, Err, refl, sym, ◌∙◌, inl, inr, arith, length-drop, length-take}
 use Rattle.std.proofs.lemmas.Bool.{true≢false}
 use Rattle.std.proofs.lemmas.Bool.Decides.{eqb_tells}
 use Rattle.image.specs.declared.image.Image.{Image}
@@ -11,12 +11,13 @@ use Rattle.elf_image.specs.Fields.{has_magic}
 use Rattle.elf_image.specs.Refusals.{refusal_of}
 use Rattle.elf_image.specs.Image.{image_of, image_if}
 use Rattle.elf_image.specs.Plain.{is_plain, plain_image}
+use Rattle.x86_grammar.specs.FrontLaws.{FrontIsSpelling, FrontEquations}
 use Rattle.rewrite_core.specs.Met.{IsRewritable}
 use Rattle.rewrite_core.specs.Places.{IsLeftOut, IsLaid}
 use Rattle.rewrite_core.specs.Layout.{text_of}
 use Rattle.rewrite_core.specs.Rewrites.{IsRefused, by_image, not_yet}
 use Rattle.rewrite_core.proofs.MetPlaces.{laid_is_taken, left_out_is_not_taken}
-use Rattle.rewrite_core.proofs.PlainPage.{plain_page}
+use Rattle.rewrite_core.proofs.PlainPage.{text_bytes, plain_page}
 
 -- a file that the reader takes
 pub record IsPlainFile (file : List ℕ) : Type 0 where
@@ -65,15 +66,16 @@ pub other_form_refuses : (file : List ℕ) (image : Image) → image_of file Sou
 other_form_refuses file image e other = not_yet refl (accepted_by_image file image e) (λ t. let plain = t.plain in absurd (true≢false (sym plain ∙ other)))
 
 -- nor is a plain file in which a run can reach what isn't taken yet
-pub left_out_refuses : (file : List ℕ) (image : Image) → image_of file Source ≡ Ok image → IsPlainFile file → IsLeftOut (text_of file) → IsRefused file NotYet
-left_out_refuses file image e p l = not_yet refl (accepted_by_image file image e) (λ t. left_out_is_not_taken (plain_image file) (text_of file) (plain_page file p.whole) l t.taken)
+pub left_out_refuses : FrontIsSpelling → FrontEquations → (file : List ℕ) (image : Image) → All (λ b. b < 256) file → image_of file Source ≡ Ok image → IsPlainFile file → IsLeftOut (text_of file) → IsRefused file NotYet
+left_out_refuses spelling equations file image bytes e p l =
+    not_yet refl (accepted_by_image file image e) (λ t. left_out_is_not_taken spelling equations (plain_image file) (text_of file) (plain_page spelling equations file p.whole (text_bytes file bytes)) l t.taken)
 
 -- one whose page has new code is
-pub laid_takes : (file code : List ℕ) → IsPlainFile file → IsLaid (text_of file) code → IsRewritable file
-laid_takes file code p laid = record {
+pub laid_takes : FrontIsSpelling → FrontEquations → (file code : List ℕ) → All (λ b. b < 256) file → IsPlainFile file → IsLaid (text_of file) code → IsRewritable file
+laid_takes spelling equations file code bytes p laid = record {
   magic = p.magic;
   plain = p.plain;
-  taken = laid_is_taken (plain_image file) (text_of file) (plain_page file p.whole) code laid;
+  taken = laid_is_taken spelling equations (plain_image file) (text_of file) (plain_page spelling equations file p.whole (text_bytes file bytes)) code laid;
 }
 
 -- the page of code of the image that was read

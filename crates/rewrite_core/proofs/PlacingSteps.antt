@@ -4,6 +4,7 @@ use Rattle.std.proofs.Math.Seq.{take-add}
 use Rattle.std.proofs.lemmas.List.{get_or-set_other, take_at, take_all, length-set}
 use Rattle.std.proofs.lemmas.List.Elements.{All-push}
 use Rattle.std.proofs.lemmas.Bool.{cases_eq}
+use Rattle.x86_grammar.specs.FrontLaws.{FrontEquations}
 use Rattle.rewrite_core.specs.declared.places.Judgement.{Judgement}
 use Rattle.rewrite_core.specs.declared.places.Judgement.TheVariants.{GoesOn, Jumps, Ends, LeftOut}
 use Rattle.rewrite_core.specs.declared.placing.Part.{Part}
@@ -85,11 +86,11 @@ module _ (page : List ℕ) (s t : Placing) (at : ℕ) (o : IsOpen page s at) (pa
   put_at = after (λ a b n. place_at a at ≡ Some s.size) (placed_at s.places.items at s.size (at_within page s.places.items s.parts.items s.size at o part None))
 
 -- ---- what a step leaves
-pub jumps_step : (page : List ℕ) (s t : Placing) (at to : ℕ) → length page ≡ 4096 → IsOpen page s at → judged_at page at ≡ Jumps to → IsPut s t at (Leads to) → IsPlaced page s t at Done
-jumps_step page s t at to l o e put = record {
+pub jumps_step : FrontEquations → (page : List ℕ) (s t : Placing) (at to : ℕ) → length page ≡ 4096 → IsOpen page s at → judged_at page at ≡ Jumps to → IsPut s t at (Leads to) → IsPlaced page s t at Done
+jumps_step laws page s t at to l o e put = record {
   goes =
       let settled = subst (λ (j : Judgement). Settled (set s.places.items at (Some s.size)) (s.parts.items ++ Leads to ∷ []) (s.size + 5) None at s.size j) (sym e) (has_last s.parts.items s.size (Leads to) o.placed.sized) in
-      put_placed page s t at o (Leads to) put None settled (omega (arith, jumps_within page at to e), jump to o.reached e) (omega arith);
+      put_placed page s t at o (Leads to) put None settled (omega (arith, jumps_within laws page at to e), jump to o.reached e) (omega arith);
   grew = put_grows page s t at o (Leads to) put;
   placed = put_at page s t at o (Leads to) put;
   list = λ f n r g. absurd (not_jumps page s.places.items s.parts.items at f to e n r g);
@@ -105,9 +106,9 @@ ends_step page s t at o e put = record {
   list = λ f n r g. after page s t at o Stops put (λ a b k. IsWhole page b n) (list_stops page s.places.items s.parts.items at f e n r g);
 }
 
-module _ (page : List ℕ) (s t : Placing) (at len : ℕ) (o : IsOpen page s at) (e : judged_at page at ≡ GoesOn len) (put : IsPut s t at (Kept at len)) where
+module _ (laws : FrontEquations) (page : List ℕ) (s t : Placing) (at len : ℕ) (o : IsOpen page s at) (e : judged_at page at ≡ GoesOn len) (put : IsPut s t at (Kept at len)) where
   short : (1 ≤ len) × (len ≤ 5) × (at + len ≤ length page)
-  short = goes_short page at len e o.within
+  short = goes_short laws page at len e o.within
 
   ahead : ArePlaced page t.places.items t.parts.items t.size (Some (at + len))
   ahead =
@@ -153,8 +154,8 @@ left_out_step page s t at o e f g =
 pub small_size : (page : List ℕ) (s : Placing) (next : Option ℕ) → length page ≡ 4096 → ArePlaced page s.places.items s.parts.items s.size next → s.size ≤ 40970
 small_size page s next l a = let r = a.room in let h = a.small in omega arith
 
-pub goes_within : (page : List ℕ) (s t : Placing) (at len : ℕ) → length page ≡ 4096 → IsOpen page s at → judged_at page at ≡ GoesOn len → t.places.items ≡ set s.places.items at (Some s.size) → (len ≤ 5) × (at + len ≤ 4096) × (at + len < length t.places.items)
-goes_within page s t at len l o e put =
-    let h = goes_short page at len e o.within in
+pub goes_within : FrontEquations → (page : List ℕ) (s t : Placing) (at len : ℕ) → length page ≡ 4096 → IsOpen page s at → judged_at page at ≡ GoesOn len → t.places.items ≡ set s.places.items at (Some s.size) → (len ≤ 5) × (at + len ≤ 4096) × (at + len < length t.places.items)
+goes_within laws page s t at len l o e put =
+    let h = goes_short laws page at len e o.within in
     let a = o.placed.all in
     (h.1, omega (arith, h.2), omega (arith, h.2, ap length put, length-set s.places.items at (Some s.size)))

@@ -1,25 +1,32 @@
 -- The code of a plain file is its one page.
-use Rattle.std.proofs.Common.{◌≡◌, ◌⊎◌, ℕ, zero, suc, ◌+◌, ◌-◌, ◌<◌, ◌≤◌, Bool, true, false, cond, List, [], ◌∷◌, length, take, drop, get_or, Option, Some, None, refl, sym, ap, ◌∙◌, inl, inr, ⊎_elim, arith, add-one}
+use Rattle.std.proofs.Common.{◌≡◌, ◌⊎◌, ℕ, zero, suc, ◌+◌, ◌-◌, ◌<◌, ◌≤◌, Bool, true, false, cond, List, [], ◌∷◌, length, take, drop, get_or, All, Option, Some, None, refl, sym, ap, ◌∙◌, inl, inr, ⊎_elim, arith, add-one}
 use Rattle.std.proofs.Math.Seq.{drop-cons}
 use Rattle.std.proofs.lemmas.List.{drop_all}
+use Rattle.std.proofs.lemmas.List.Elements.{All-take, All-drop}
 use Rattle.std.proofs.lemmas.Bool.{le-leb}
 use Rattle.std.proofs.lemmas.Bool.Decides.{nat_tests}
 use Rattle.image.specs.declared.image.Image.{Image}
 use Rattle.image.specs.Addresses.{segment_at, holds, code_byte_in, code_byte_at, code_bytes, then_code}
 use Rattle.elf_image.specs.Plain.{plain_image, text_segment, room_segment}
-use Rattle.x86_meaning.specs.Spells.{front}
-use Rattle.x86_meaning.specs.Run.{code_of}
+use Rattle.x86_grammar.specs.Front.{front}
+use Rattle.x86_grammar.specs.FrontLaws.{FrontIsSpelling, FrontEquations}
+use Rattle.x86_code.specs.Code.{code_of}
 use Rattle.rewrite_core.specs.Places.{page_start, place_of}
 use Rattle.rewrite_core.specs.Layout.{text_of}
-use Rattle.rewrite_core.proofs.Fronts.{first_of, front_take}
+use Rattle.rewrite_core.proofs.Fronts.{first_of}
 use Rattle.rewrite_core.proofs.PageAddresses.{inside, beyond, address}
 
 -- an image whose code is this page: at each address stands what stands at its place
 pub record HasPage (image : Image) (page : List ℕ) : Type 0 where
   pub entry_is : image.entry ≡ page_start
   pub whole : length page ≡ 4096
+  pub bytes : All (λ b. b < 256) page
   pub stands : (a : ℕ) → code_of image a ≡ front (drop (place_of a) page)
   pub byte_is : (a : ℕ) → code_byte_at image a ≡ first_of (drop (place_of a) page)
+
+-- the page of a file of bytes
+pub text_bytes : (file : List ℕ) → All (λ b. b < 256) file → All (λ b. b < 256) (text_of file)
+text_bytes file bytes = All-take (λ b. b < 256) 4096 (drop 4096 file) (All-drop (λ b. b < 256) 4096 file bytes)
 
 exact_or : {k n : ℕ} → k ≤ n → (k < n) ⊎ (k ≡ n)
 exact_or h = grind arith
@@ -45,7 +52,7 @@ code_bytes-page image page base is (suc n) k h =
     ap (λ o. then_code o (code_bytes image (base + k + 1) n)) (is k h ∙ ap first_of end) ∙ sym (ap (take (suc n)) end))
     cases
 
-module _ (file : List ℕ) (whole : length (text_of file) ≡ 4096) where
+module _ (spelling : FrontIsSpelling) (equations : FrontEquations) (file : List ℕ) (whole : length (text_of file) ≡ 4096) (bytes : All (λ b. b < 256) (text_of file)) where
   in_text : (k : ℕ) → k < 4096 → holds (0x08049000 + k) (text_segment file) ≡ true
   in_text k h = rw (le-leb 0x08049000 (0x08049000 + k) (omega arith), le-leb (suc (0x08049000 + k)) (0x08049000 + 4096) (omega arith)) refl
 
@@ -78,24 +85,24 @@ module _ (file : List ℕ) (whole : length (text_of file) ≡ 4096) where
       not_run false = refl
 
   none_stands : (a : ℕ) → code_byte_at (plain_image file) a ≡ None → code_of (plain_image file) a ≡ None
-  unfolding code_of code_bytes front
-  none_stands a e = ap (λ (o : Option ℕ). front (then_code o (code_bytes (plain_image file) (a + 1) 14))) e
+  unfolding code_of code_bytes
+  none_stands a e = ap (λ (o : Option ℕ). front (then_code o (code_bytes (plain_image file) (a + 1) 14))) e ∙ equations.nothing
 
   at_end : drop 4096 (text_of file) ≡ []
   at_end = drop_all 4096 (text_of file) (omega (arith, whole))
 
   none_at_end : front (drop 4096 (text_of file)) ≡ None
-  unfolding front
-  none_at_end = ap front at_end
+  none_at_end = ap front at_end ∙ equations.nothing
 
   in_page : (k : ℕ) → k ≤ length (text_of file) → code_of (plain_image file) (0x08049000 + k) ≡ front (drop k (text_of file))
   unfolding code_of
-  in_page k h = ap front (code_bytes-page (plain_image file) (text_of file) 0x08049000 byte_is 15 k h) ∙ front_take (drop k (text_of file))
+  in_page k h = ap front (code_bytes-page (plain_image file) (text_of file) 0x08049000 byte_is 15 k h) ∙ spelling.fifteen (drop k (text_of file))
 
   pub plain_page : HasPage (plain_image file) (text_of file)
   plain_page = record {
     entry_is = refl;
     whole = whole;
+    bytes = bytes;
     stands = λ a. elim (address a) [
       | inside p h e q ↦ ap (code_of (plain_image file)) e ∙ in_page p (omega (arith, whole)) ∙ ap (λ (k : ℕ). front (drop k (text_of file))) (sym q)
       | beyond h q ↦ none_stands a (none_beyond a h) ∙ sym (ap (λ (k : ℕ). front (drop k (text_of file))) q ∙ none_at_end)

@@ -3,6 +3,7 @@ pub mod Places
 pub mod Placing
 pub mod Layout
 pub mod Agreement
+pub mod Beside
 pub mod Rewrites
 pub use Rattle.elf_image.specs.Refusals
 pub use Rattle.elf_image.specs.Image

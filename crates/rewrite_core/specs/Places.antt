@@ -5,7 +5,8 @@ use Rattle.x86_types.specs.declared.operand.Src.TheVariants as src
 use Rattle.x86_types.specs.declared.width.Width.TheVariants.{Four}
 use Rattle.x86_types.specs.declared.instr.Instr.{Instr}
 use Rattle.x86_types.specs.declared.instr.Instr.TheVariants.{Mov, Jmp, Int80}
-use Rattle.x86_meaning.specs.Spells.{front, word_bytes}
+use Rattle.byte_lists.specs.LittleEndian.{word_bytes}
+use Rattle.x86_grammar.specs.Front.{front}
 use Rattle.rewrite_core.specs.declared.places.Judgement.{Judgement}
 use Rattle.rewrite_core.specs.declared.places.Judgement.TheVariants.{GoesOn, Jumps, Ends, LeftOut}
 use Rattle.rewrite_core.specs.Met.{is_taken_byte}
@@ -14,7 +15,7 @@ use Rattle.rewrite_core.specs.Met.{is_taken_byte}
 abbrev pub is_apart : ℕ → Bool
 is_apart n = not (leb 0x60000000 n && ltb n 0x7C000000)
 
--- 0F 0B spells nothing here, so a run that comes there ends
+-- 0F 0B (UD2) is no instruction of the list, so a run that comes there ends
 abbrev pub stop : List ℕ
 stop = 0x0F ∷ 0x0B ∷ []
 

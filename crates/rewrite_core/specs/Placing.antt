@@ -3,7 +3,7 @@ use Rattle.std.specs.Prelude.{◌≡◌, ◌⊎◌, ℕ, ◌+◌, ◌-◌, ◌*�
 use Rattle.std.specs.Bool.{MatchBool}
 use Rattle.std.specs.List.{sum_by}
 use Rattle.std.specs.Option.{unwrap_or}
-use Rattle.x86_meaning.specs.Spells.{word_bytes}
+use Rattle.byte_lists.specs.LittleEndian.{word_bytes}
 use Rattle.rewrite_core.specs.declared.places.Judgement.{Judgement}
 use Rattle.rewrite_core.specs.declared.places.Judgement.TheVariants.{GoesOn, Jumps, Ends, LeftOut}
 use Rattle.rewrite_core.specs.declared.placing.Part.{Part}

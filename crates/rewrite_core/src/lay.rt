@@ -1,13 +1,14 @@
 // The new code of a page.
 ghost use Rattle.std.specs.Prelude.{◌≡◌, ◌≤◌, ◌++◌, length, IfOk, MatchOption, OnOk, All};
 ghost use Rattle.std.specs.Option.{unwrap_or};
-ghost use Rattle.x86_meaning.specs.Spells.{word_bytes};
+ghost use Rattle.byte_lists.specs.LittleEndian.{word_bytes};
 ghost use Rattle.rewrite_core.specs.Places.{IsLaid, IsLeftOut};
 ghost use Rattle.rewrite_core.specs.Placing.{place_at, jump_bytes, with_part, parts_code, parts_size, IsFine};
 
 use crate::placing::{Part, placing_of};
 use byteorder::{ByteOrder, LittleEndian};
 use std::alloc::{AllocError, Global};
+use x86_grammar::front_laws;
 
 /// The new place of a place, or 0 where it has none.
 fn new_place(places: &[Option<u32>], at: usize) -> u32
@@ -79,6 +80,7 @@ pub fn lay(alloc: Global, page: &[u8]) -> Result<Option<Vec<u8>>, AllocError>
     requires { length page.now ≡ 4096 }
     ensures laid { IfOk result (λ found. MatchOption found (IsLeftOut page.now) (λ code. IsLaid page.now code.items)) }
 {
+    front_laws();
     let Some(placing) = placing_of(alloc, page)? else {
         return Ok(None);
     };

@@ -1,9 +1,10 @@
 // The places of a page of code: what stands at each.
 ghost use Rattle.std.specs.Prelude.{◌≡◌, ◌<◌, ◌≤◌, length};
+ghost use Rattle.x86_grammar.specs.Front.{front};
 ghost use Rattle.rewrite_core.specs.Met.{is_taken_byte};
 ghost use Rattle.rewrite_core.specs.Places.{is_apart, place_of, target_of, judged_as, judged_from, judged_at};
 
-use x86_meaning::front;
+use x86_decode::{Decoded, decode};
 use x86_types::{Instr, Rm, Src, Width};
 
 /// The address of the page of code.
@@ -68,6 +69,16 @@ fn judged_as(at: usize, instr: Instr, len: usize) -> Judgement
         Instr::Int80 => Judgement::GoesOn(len),
         Instr::Jmp { by } => Judgement::Jumps(target_of(at + len, by)),
         _ => Judgement::LeftOut,
+    }
+}
+
+// The instruction that a front of the bytes spells, with its length, if one does.
+fn front(bytes: &[u8]) -> Option<(Instr, u8)>
+    ensures { result ≡ front bytes.now }
+{
+    match decode(bytes) {
+        Decoded::One(instr, len) => Some((instr, len)),
+        Decoded::Short | Decoded::Outside => None,
     }
 }
 

@@ -5,6 +5,7 @@ ghost use Rattle.rewrite_core.specs.Placing.{part_size, IsSettled, IsOpen, IsAdd
 
 use crate::places::{Judgement, judged_at};
 use std::alloc::{AllocError, Global};
+use x86_grammar::front_laws;
 
 /// A part of the new code: bytes of the page, a jump to the new place of a place, or a stop.
 #[derive(Clone, Copy, Debug)]
@@ -58,6 +59,7 @@ impl Placing {
         requires opened { IsOpen page.now self.old at }
         ensures { IfOk result (λ next. IsPlaced page.now self.old self.new at next) }
     {
+        front_laws();
         let judgement = judged_at(page, at);
         self.places[at] = Some(self.size as u32);
         match judgement {

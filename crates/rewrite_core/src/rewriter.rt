@@ -8,6 +8,7 @@ use byte_lists::ByteList;
 use elf_image::{ImageError, Refusal, Room, image_laws, is_plain, read_image};
 use std::alloc::{AllocError, Global};
 use thiserror::Error;
+use x86_grammar::front_laws;
 
 /// A rewritten file.
 #[derive(Debug, Drop)]
@@ -51,6 +52,7 @@ pub fn rewrite(alloc: Global, bytes: &[u8]) -> Result<Rewritten, RewriteError>
     }
     image_laws();
     let text = image.segments.as_slice()[0].bytes.as_slice();
+    front_laws();
     let Some(code) = lay(alloc, text)? else {
         return Err(RewriteError::Refused(Refusal::NotYet));
     };

@@ -11,4 +11,4 @@ returns c =
     c.in_ok-code.ensures
     ∙ ap (λ (places : List (Option ℕ)). parts_code page (place_at places) 0 c.as_slice-2.result.now) c.as_slice.ensures.value
     ∙ ap (parts_code page (place_at s.places.items) 0) c.as_slice-2.ensures.value in
-    record { laid = laid page c.in_ok-code.code.items c.requires s (rw c.in-Some.is at c.in_ok-placing.ensures) is }
+    record { laid = laid c.front_laws.ensures.equations page c.in_ok-code.code.items c.requires s (rw c.in-Some.is at c.in_ok-placing.ensures) is }

@@ -31,7 +31,8 @@ returns-in_default c =
     let read = c.image_laws.ensures.plain_is_read file Source c.in-Ok.image c.in-Ok.ensures.is is_plain_file in
     let text = c.as_slice-text.ensures ∙ text_is file c.in-Ok.image c.as_slice.result.now _ read.1 c.as_slice.ensures in
     let left_out : IsLeftOut c.as_slice-text.result.now = rw c.in_default.is at c.in_ok-code.ensures.laid in
-    left_out_refuses file c.in-Ok.image c.in-Ok.ensures.is (plain_file file read.0 is_plain_file) (subst IsLeftOut text left_out)
+    let bytes = All-from_get_or (λ b. b < 256) file 0 (λ i h. omega (arith, c.type_inv.bytes i)) in
+    left_out_refuses c.front_laws.ensures.spelling c.front_laws.ensures.equations file c.in-Ok.image bytes c.in-Ok.ensures.is (plain_file file read.0 is_plain_file) (subst IsLeftOut text left_out)
 
 pub write_file-requires-clause-page : goal.write_file-requires-clause-page
 write_file-requires-clause-page c =
@@ -64,7 +65,7 @@ returns c =
     let laid : IsLaid (text_of file) code = subst (λ t. IsLaid t code) text found in
     let out = c.new.ensures in
     let bytes = All-from_get_or (λ b. b < 256) file 0 (λ i h. omega (arith, c.type_inv.bytes i)) in
-    let takes = laid_takes file code plain laid in
+    let takes = laid_takes c.front_laws.ensures.spelling c.front_laws.ensures.equations file code bytes plain laid in
     record {
       rewritable = takes;
       code = code;
