@@ -1,8 +1,9 @@
 // The types of states of the small machines, by which the laws of traces are called.
 ghost use Rattle.std.specs.Prelude.{List, ℕ};
+ghost use Rattle.traces.specs.Moves.{HoldingState};
 ghost use Rattle.traces.specs.Trace.{Label};
 ghost use Rattle.trace_checks.specs.Chain.{CodePlace, LaidPlace, UnitPlace};
-ghost use Rattle.trace_checks.specs.WeightChecks.{LightWalk, WalkState};
+ghost use Rattle.trace_checks.specs.WeightChecks.{IsLight, WalkState};
 
 use traces::{Family, States};
 
@@ -72,5 +73,5 @@ pub struct EachLightWalk;
 impl Family for EachLightWalk {
     ghost Index = { ℕ };
 
-    ghost At = { λ weight. LightWalk weight };
+    ghost At = { λ weight. HoldingState (IsLight weight) };
 }

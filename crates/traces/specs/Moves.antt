@@ -67,7 +67,12 @@ GoesTo Inv (Stand ls e) = ⊥
 GoesTo Inv (Go ls s) = Inv s
 GoesTo Inv (Halt ls e) = ⊥
 
--- a state in which an invariant holds: an invariant is a type with a map to the states in which it holds
+-- a state in which an invariant holds
+pub record HoldingState {S : Type 0} (Inv : S → Type 0) : Type 0 where
+  pub state : S
+  pub holds : Inv state
+
+-- in a clause an invariant is a type with a map to states, as the type of `HoldingState`s is; it holds in the states of the map
 abbrev pub Holds : {S I : Type 0} → (I → S) → S → Type 0
 Holds {S} {I} state s = (i : I) × (state i ≡ s)
 

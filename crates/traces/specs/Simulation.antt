@@ -38,6 +38,12 @@ pub record Fits (c r : Seen) : Type 0 where
 abbrev pub SameEvents : List Label → List Label → Type 0
 SameEvents ls ls' = events ls' ≡ events ls
 
+-- a pair of states that are related
+pub record RelatedPair {S T : Type 0} (Rel : S → T → Type 0) : Type 0 where
+  pub left : S
+  pub right : T
+  pub related : Rel left right
+
 -- two states are related where one pair has them as its parts. So any relation of states is a type of pairs
 abbrev pub Paired : {P S T : Type 0} → (P → S) → (P → T) → S → T → Type 0
 Paired {P} left right s t = (p : P) × (left p ≡ s) × (right p ≡ t)
