@@ -4,20 +4,20 @@ ghost use Rattle.trace_checks.specs.Chain.{CodeCostsSwept, CodeRefinesSwept, Cod
 use crate::machines::{CodePlaces, EachCodePlace, EachCount, LaidPlaces, Numbers, UnitPlaces};
 use traces::{agreement_laws, meeting_laws, move_laws, run_laws, simulation_laws, turn_laws};
 
-/// Code that is laid out, and what it costs.
+/// Code, and how many steps it takes when it is laid out.
 pub trait Weighted {
-    /// So many steps of the laid code for each turn.
+    /// The steps of the laid code for each turn.
     ghost weight: { ℕ };
-    /// So many before the first turn.
+    /// Its steps before the first turn.
     ghost constant: { ℕ };
-    /// So many at the end.
+    /// Its steps more than an instruction costs, where it ends.
     ghost last: { ℕ };
 
-    /// Does nothing: its clause says that the first two are a weight of the code.
+    /// Does nothing: its clause says that the code has this weight with this constant.
     fn weighs()
         ensures { CodeWeighs weight constant };
 
-    /// Does nothing: its clause says that the laid code takes no more steps than that.
+    /// Does nothing: its clause says that the laid code takes no more steps than its instructions cost and `last`.
     fn costs()
         ensures { LaidCostsCode last };
 }
