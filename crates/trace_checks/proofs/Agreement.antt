@@ -3,7 +3,7 @@ use Rattle.std.proofs.Common.{◌≡◌, ℕ, zero, suc, ◌≤◌, ◌<◌, Lis
 use Rattle.traces.specs.Trace.{Label, Code, End, Exited, Outside, Unspecified, Guard, Behaviour, seen, before, run, events}
 use Rattle.traces.specs.Agree.{guard_turn, Follows}
 use Rattle.traces.specs.Plain.{Matches, DoesPlainly}
-use Rattle.trace_checks.specs.Played.{played, played_on, counted, repeat, alternate, one, two}
+use Rattle.trace_checks.specs.Played.{played, played_on, counted_down, repeat, alternate, one, two}
 use Rattle.trace_checks.specs.AgreementChecks.{Agreed, RefusesDroppedEvent, RefusesOtherEvent, RefusesEarlyEnd, RefusesEndlessRun, RefusesOtherStatus, RefusesExtraEvent, RefusesDroppedBeforeUnspecified, RefusesExitAtGuard, RefusesSlowExit, AllowsAnythingAfterUnspecified, AllowsOutsideAtGuard, AllowsSlowExit, RefusesStepLeftOut, RefusesFewerSteps}
 
 -- a run that has ended shows the same within each bound
@@ -27,20 +27,20 @@ unfolding run
 step_at ls e zero = refl
 step_at ls e (suc k) = refl
 
-count_running : (e : End) (n k : ℕ) → k < n → (counted n e k).end ≡ None
+count_running : (e : End) (n k : ℕ) → k < n → (counted_down n e k).end ≡ None
 unfolding run
 count_running e zero k h = absurd (omega (arith, h))
 count_running e (suc n) zero h = refl
 count_running e (suc n) (suc k) h = count_running e n k (omega (arith, h))
 
-count_silent : (e : End) (n k : ℕ) → (counted n e k).trace ≡ []
+count_silent : (e : End) (n k : ℕ) → (counted_down n e k).trace ≡ []
 unfolding run
 count_silent e zero zero = refl
 count_silent e zero (suc k) = refl
 count_silent e (suc n) zero = refl
 count_silent e (suc n) (suc k) = count_silent e n k
 
-count_ended : (e : End) (n k : ℕ) → n ≤ k → (counted n e k).end ≡ Some e
+count_ended : (e : End) (n k : ℕ) → n ≤ k → (counted_down n e k).end ≡ Some e
 unfolding run
 count_ended e zero zero h = refl
 count_ended e zero (suc k) h = refl
@@ -123,7 +123,7 @@ refuses_extra_event p =
     let r = d.ended (Exited 0) (ap (λ s. s.end) c) (λ z. cc) in
     extra_event d.steps r.0 (d.same_events ∙ ap (λ s. events s.trace) c) r.1
 
-slow_exit : (n : ℕ) → 4352 < n → Agreed (played ([] ∷ []) (Exited 0)) (counted n (Exited 0)) → ⊥
+slow_exit : (n : ℕ) → 4352 < n → Agreed (played ([] ∷ []) (Exited 0)) (counted_down n (Exited 0)) → ⊥
 slow_exit n h p =
     let d = p.does 1 in
     let c = ap (λ s. s.end) (step_at [] (Exited 0) 0) in
@@ -162,12 +162,12 @@ allows_anything_after_unspecified R none runs first = record {
         }
 
 -- what is seen of a count that ends is its end
-count_is : (e e' : End) (n m : ℕ) → (counted n e m).end ≡ Some e' → e' ≡ e
+count_is : (e e' : End) (n m : ℕ) → (counted_down n e m).end ≡ Some e' → e' ≡ e
 count_is e e' n m h =
     let cases : (m < n) ⊎ (n ≤ m) = grind arith in
     ⊎_elim (λ l. let x = count_running e n m l in cc) (λ l. let x = count_ended e n m l in cc) cases
 
-outside_at_guard : (k : ℕ) → k ≤ 4352 → Agreed (played [] (Guard Code 5)) (counted k Outside)
+outside_at_guard : (k : ℕ) → k ≤ 4352 → Agreed (played [] (Guard Code 5)) (counted_down k Outside)
 outside_at_guard k l = record {
   does = λ n.
       let c = ended_at (Guard Code 5) n in
@@ -188,7 +188,7 @@ outside_at_guard k l = record {
 pub allows_outside_at_guard : AllowsOutsideAtGuard
 allows_outside_at_guard = outside_at_guard 4352 (omega arith)
 
-slow : (k : ℕ) → 0 < k → k ≤ 4352 → Agreed (played ([] ∷ []) (Exited 0)) (counted k (Exited 0))
+slow : (k : ℕ) → 0 < k → k ≤ 4352 → Agreed (played ([] ∷ []) (Exited 0)) (counted_down k (Exited 0))
 slow k some l = record {
   does = does;
   no_other = λ m.
@@ -200,7 +200,7 @@ slow k some l = record {
     start : played ([] ∷ []) (Exited 0) 0 ≡ seen [] None
     start = start_at [] [] (Exited 0)
 
-    does : (n : ℕ) → DoesPlainly 4096 256 (played ([] ∷ []) (Exited 0)) (counted k (Exited 0)) n
+    does : (n : ℕ) → DoesPlainly 4096 256 (played ([] ∷ []) (Exited 0)) (counted_down k (Exited 0)) n
     does zero = record {
       steps = 0;
       bound = omega arith;

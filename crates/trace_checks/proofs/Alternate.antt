@@ -2,7 +2,7 @@
 use Rattle.std.proofs.Common.{◌≡◌, ◌∙◌, ◌+◌, ℕ, zero, suc, List, [], ◌∷◌, None, refl, sym, ap, arith, inl}
 use Rattle.traces.specs.Trace.{Label, Turn, Behaviour, run}
 use Rattle.traces.specs.Turns.{RefinesByTurns}
-use Rattle.traces.specs.Weight.{Paced, OneEvent, StartsNoLater}
+use Rattle.traces.specs.Weight.{Paced, OneEvent, StartsWithNoMore}
 use Rattle.traces.specs.Agree.{Covers, Follows, end_as, outside}
 use Rattle.traces.specs.Steps.{Goes}
 use Rattle.traces.specs.Meeting.{SeenRefines, Meets}
@@ -28,7 +28,7 @@ code_goes n = record { some = omega arith; awake = refl; by = λ j. let e : 1 + 
 meets : Meets (alternate shown) (repeat shown) (λ (n : ℕ). 1) (λ (n : ℕ). n) SeenRefines
 meets n = inl (record { steps = 2; trace = shown; state = 1; goes = unit_goes; steps' = 1; state' = n; goes' = code_goes n; related = (n, refl, refl) })
 
-starts : StartsNoLater (run (alternate shown) 1) (run (repeat shown) 0)
+starts : StartsWithNoMore (run (alternate shown) 1) (run (repeat shown) 0)
 unfolding run
 starts = omega arith
 

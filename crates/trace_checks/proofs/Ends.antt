@@ -1,20 +1,15 @@
 -- Reports and counts are endings.
-use Rattle.std.proofs.Common.{◌≡◌, ◌+◌, ℕ, List, [], ◌∷◌, ◌++◌, refl, sym, ap, ◌∙◌, arith, ⊎_elim}
+use Rattle.std.proofs.Common.{◌≡◌, ℕ, List, [], ◌∷◌, refl, sym, ap, ◌∙◌, ⊎_elim}
 use Rattle.traces.specs.Trace.{Write, Label, Turn, Took, Made, End, Exited, MemoryFault, DivideFault, Outside, OtherCall, Unspecified, Guard, Stopped, turns, taken}
 use Rattle.traces.specs.Turns.{TraceAt}
+use Rattle.traces.specs.TraceLaws.{TraceLaws}
 use Rattle.trace_checks.specs.EndingChecks.{answer, reporting, counting, ReportingEnds, CountingEnds}
 
-taken-append : (a b : List Label) → taken (a ++ b) ≡ taken a + taken b
-taken-append [] b = omega arith
-taken-append (Turn x ∷ a) b = taken-append a b
-taken-append (Took ∷ a) b = omega (arith, taken-append a b)
-taken-append (Made v ∷ a) b = taken-append a b
-
 -- one turn more takes no answer
-same_taken : (reports a : ℕ) (c r : List Label) → TraceAt reports a c r → taken r ≡ taken c
-same_taken reports a c r h = ⊎_elim
+same_taken : TraceLaws → (reports a : ℕ) (c r : List Label) → TraceAt reports a c r → taken r ≡ taken c
+same_taken laws reports a c r h = ⊎_elim
     (λ e. ap taken e)
-    (λ k. ap taken k.stop ∙ taken-append k.front (Turn a ∷ k.report) ∙ sym (taken-append k.front k.report) ∙ sym (ap taken k.cut))
+    (λ k. ap taken k.stop ∙ laws.taken_append k.front (Turn a ∷ k.report) ∙ sym (laws.taken_append k.front k.report) ∙ sym (ap taken k.cut))
     h
 
 unturned : (answers : List ℕ) (ls : List Label) (e : End) → turns (reporting answers ls e) ≡ 0
@@ -27,12 +22,12 @@ unturned answers ls Outside = refl
 unturned answers ls (OtherCall x) = refl
 unturned answers ls Unspecified = refl
 
-pub reporting_ends : ReportingEnds
-reporting_ends answers = (
+pub reporting_ends : TraceLaws → ReportingEnds
+reporting_ends laws answers = (
   record { unturned = unturned answers; unspecified = λ ls. refl },
   record {
     shown = λ ls k a. refl;
-    same = λ c r k a h. ap (λ n. Took ∷ Made (Write 2 (a ∷ []) (answer answers n)) ∷ []) (same_taken 0 a c r h);
+    same = λ c r k a h. ap (λ n. Took ∷ Made (Write 2 (a ∷ []) (answer answers n)) ∷ []) (same_taken laws 0 a c r h);
   },
 )
 

@@ -3,7 +3,7 @@ use Rattle.std.specs.Prelude.{◌≡◌, ℕ, [], ◌∷◌, None}
 use Rattle.traces.specs.Trace.{Code, End, Exited, Outside, Unspecified, Guard, Behaviour, run, events}
 use Rattle.traces.specs.Agree.{Covers, Follows}
 use Rattle.traces.specs.Plain.{AgreePlainly}
-use Rattle.trace_checks.specs.Played.{played, played_on, counted, repeat, alternate, one, two}
+use Rattle.trace_checks.specs.Played.{played, played_on, counted_down, repeat, alternate, one, two}
 
 -- agreement with the numbers of the written file
 abbrev pub Agreed : Behaviour → Behaviour → Type 0
@@ -43,7 +43,7 @@ RefusesExitAtGuard = Agreed (played [] (Guard Code 5)) (played [] (Exited 0)) �
 
 -- one that takes one step more than the bound
 abbrev pub RefusesSlowExit : Type 0
-RefusesSlowExit = Agreed (played ([] ∷ []) (Exited 0)) (counted 4353 (Exited 0)) → ⊥
+RefusesSlowExit = Agreed (played ([] ∷ []) (Exited 0)) (counted_down 4353 (Exited 0)) → ⊥
 
 -- one that takes fewer steps than the old one, which takes one step of two to show nothing, whatever the bound: it shows the same
 -- events, but must have taken as many steps as the old one where that hasn't ended
@@ -56,11 +56,11 @@ AllowsAnythingAfterUnspecified = (R : Behaviour) → events (R 0).trace ≡ [] �
 
 -- a guard event may end as a place outside, a step late
 abbrev pub AllowsOutsideAtGuard : Type 0
-AllowsOutsideAtGuard = Agreed (played [] (Guard Code 5)) (counted 4352 Outside)
+AllowsOutsideAtGuard = Agreed (played [] (Guard Code 5)) (counted_down 4352 Outside)
 
 -- the bound itself may be reached
 abbrev pub AllowsSlowExit : Type 0
-AllowsSlowExit = Agreed (played ([] ∷ []) (Exited 0)) (counted 4352 (Exited 0))
+AllowsSlowExit = Agreed (played ([] ∷ []) (Exited 0)) (counted_down 4352 (Exited 0))
 
 -- a simulation by steps, whatever its bound, refuses a target that takes no step for a step that shows nothing: it must take as
 -- many steps as the source, also where it would have no use for them

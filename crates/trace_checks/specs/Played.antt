@@ -26,8 +26,8 @@ count_down e zero = Stand [] e
 count_down e (suc n) = Go [] n
 
 -- its run
-abbrev pub counted : ℕ → End → Behaviour
-counted n e = run (count_down e) n
+abbrev pub counted_down : ℕ → End → Behaviour
+counted_down n e = run (count_down e) n
 
 -- a machine that shows these labels at every step
 abbrev pub repeat : List Label → ℕ → Move ℕ

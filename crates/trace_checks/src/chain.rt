@@ -1,23 +1,23 @@
 ghost use Rattle.std.specs.Prelude.{ℕ};
 ghost use Rattle.trace_checks.specs.Chain.{CodeCostsSwept, CodeRefinesSwept, CodeWeighs, LaidAgreesWithCut, LaidCostsCode, LaidFollowsUnit, RefusesTwoSteps, SweptRefinesUnit, UnitRefinesCut};
 
-use crate::machines::{EachCount, EachInstruction, Instructions, LaidPlaces, Numbers, Operations};
-use traces::{agreement_laws, move_laws, run_laws, simulation_laws, turn_laws};
+use crate::machines::{CodePlaces, EachCodePlace, EachCount, LaidPlaces, Numbers, UnitPlaces};
+use traces::{agreement_laws, meeting_laws, move_laws, run_laws, simulation_laws, turn_laws};
 
-/// Code that is laid out, and what it costs.
+/// Code, and how many steps it takes when it is laid out.
 pub trait Weighted {
-    /// So many steps of the laid code for each turn.
+    /// The steps of the laid code for each turn.
     ghost weight: { ℕ };
-    /// So many before the first turn.
+    /// Its steps before the first turn.
     ghost constant: { ℕ };
-    /// So many at the end.
+    /// Its steps more than an instruction costs, where it ends.
     ghost last: { ℕ };
 
-    /// Does nothing: its clause says that the first two are a weight of the code.
+    /// Does nothing: its clause says that the code has this weight with this constant.
     fn weighs()
         ensures { CodeWeighs weight constant };
 
-    /// Does nothing: its clause says that the laid code takes no more steps than that.
+    /// Does nothing: its clause says that the laid code takes no more steps than its instructions cost and `last`.
     fn costs()
         ensures { LaidCostsCode last };
 }
@@ -33,12 +33,12 @@ impl Weighted for SmallCode {
     ghost last = { 1 };
 
     fn weighs() {
-        move_laws::<Instructions>();
+        move_laws::<CodePlaces>();
     }
 
     fn costs() {
         run_laws::<LaidPlaces>();
-        simulation_laws::<Instructions, LaidPlaces, EachInstruction>();
+        simulation_laws::<CodePlaces, LaidPlaces, EachCodePlace>();
     }
 }
 
@@ -55,15 +55,16 @@ pub fn chain_checks()
     <SmallCode as Weighted>::weighs();
     <SmallCode as Weighted>::costs();
     agreement_laws();
+    meeting_laws();
     turn_laws();
     run_laws::<Numbers>();
-    run_laws::<Operations>();
-    run_laws::<Instructions>();
+    run_laws::<UnitPlaces>();
+    run_laws::<CodePlaces>();
     run_laws::<LaidPlaces>();
     move_laws::<Numbers>();
-    move_laws::<Operations>();
-    move_laws::<Instructions>();
-    simulation_laws::<Numbers, Operations, EachCount>();
-    simulation_laws::<Operations, Operations, EachCount>();
-    simulation_laws::<Operations, Instructions, EachCount>();
+    move_laws::<UnitPlaces>();
+    move_laws::<CodePlaces>();
+    simulation_laws::<Numbers, UnitPlaces, EachCount>();
+    simulation_laws::<UnitPlaces, UnitPlaces, EachCount>();
+    simulation_laws::<UnitPlaces, CodePlaces, EachCount>();
 }

@@ -1,14 +1,16 @@
 ghost use Rattle.std.specs.Prelude.{ℕ};
 ghost use Rattle.traces.specs.Trace.{Exited, Grows};
-ghost use Rattle.trace_checks.specs.Played.{counted};
+ghost use Rattle.trace_checks.specs.Played.{counted_down};
 ghost use Rattle.trace_checks.specs.AgreementChecks.{AllowsAnythingAfterUnspecified, AllowsOutsideAtGuard, AllowsSlowExit, RefusesDroppedBeforeUnspecified, RefusesDroppedEvent, RefusesEarlyEnd, RefusesEndlessRun, RefusesExitAtGuard, RefusesExtraEvent, RefusesFewerSteps, RefusesOtherEvent, RefusesOtherStatus, RefusesSlowExit, RefusesStepLeftOut};
 ghost use Rattle.trace_checks.specs.EndingChecks.{CountingEnds, ReportingEnds};
 ghost use Rattle.trace_checks.specs.RowChecks.{ChargesEachStep, KeepsUnreadInput};
 ghost use Rattle.trace_checks.specs.TurnChecks.{AllowsLongTurn, AllowsSplitEvents, AllowsStepLeftOut, RefusesEarlyReport, RefusesLateGuard, RefusesLostMoment, RefusesMovedEvent, RefusesOtherAddress};
 ghost use Rattle.trace_checks.specs.WeightChecks.{AllowsWeightWithConstant, RefusesWeightWithoutConstant, WalkPaced};
 
-use crate::machines::{EachCount, EachLightPlace, Numbers, Places, Scripts};
-use traces::{agreement_laws, invariant_laws, move_laws, run_laws, simulation_laws, turn_laws};
+use crate::machines::{EachCount, EachLightWalk, Numbers, Scripts, WalkStates};
+use traces::{
+    agreement_laws, invariant_laws, move_laws, run_laws, simulation_laws, trace_laws, turn_laws,
+};
 
 /// Does nothing: its clauses say what agreement within `4096 * n + 256` steps refuses and lets pass.
 pub fn agreement_checks()
@@ -47,15 +49,17 @@ pub fn turn_checks()
     simulation_laws::<Numbers, Numbers, EachCount>();
 }
 
-/// Does nothing: its clauses say that reports and counts are endings.
+/// Calls the laws of traces alone: its clauses say that reports and counts are endings.
 pub fn ending_checks()
     ensures reporting_ends { ReportingEnds }
     ensures counting_ends { CountingEnds }
-{}
+{
+    trace_laws();
+}
 
 /// Calls the laws of runs alone: its clause is one of them, of the machine that counts down.
 pub fn count_grows()
-    ensures grows { (n : ℕ) → Grows (counted n (Exited 0)) }
+    ensures grows { (n : ℕ) → Grows (counted_down n (Exited 0)) }
 {
     traces::run_laws::<Numbers>();
 }
@@ -67,7 +71,7 @@ pub fn weight_checks()
     ensures refuses_weight_without_constant { RefusesWeightWithoutConstant }
     ensures allows_weight_with_constant { AllowsWeightWithConstant }
 {
-    invariant_laws::<Places, EachLightPlace>();
+    invariant_laws::<WalkStates, EachLightWalk>();
 }
 
 /// Does nothing: its clauses are values of functions of traces, worked by hand.

@@ -10,6 +10,6 @@ pub use checks::{
     agreement_checks, count_grows, ending_checks, row_checks, turn_checks, weight_checks,
 };
 pub use machines::{
-    EachCount, EachInstruction, EachLightPlace, Instructions, LaidPlaces, Numbers, Operations,
-    Places, Scripts,
+    CodePlaces, EachCodePlace, EachCount, EachLightWalk, LaidPlaces, Numbers, Scripts, UnitPlaces,
+    WalkStates,
 };

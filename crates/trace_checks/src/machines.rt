@@ -1,8 +1,9 @@
 // The types of states of the small machines, by which the laws of traces are called.
 ghost use Rattle.std.specs.Prelude.{List, ℕ};
+ghost use Rattle.traces.specs.Moves.{HoldingState};
 ghost use Rattle.traces.specs.Trace.{Label};
-ghost use Rattle.trace_checks.specs.Chain.{Instruction, Laid, Operation};
-ghost use Rattle.trace_checks.specs.WeightChecks.{LightPlace, Place};
+ghost use Rattle.trace_checks.specs.Chain.{CodePlace, LaidPlace, UnitPlace};
+ghost use Rattle.trace_checks.specs.WeightChecks.{IsLight, WalkState};
 
 use traces::{Family, States};
 
@@ -21,31 +22,31 @@ impl States for Scripts {
 }
 
 /// Places within blocks.
-pub struct Places;
+pub struct WalkStates;
 
-impl States for Places {
-    ghost Of = { Place };
+impl States for WalkStates {
+    ghost Of = { WalkState };
 }
 
-/// Operations of a unit.
-pub struct Operations;
+/// Places of a unit.
+pub struct UnitPlaces;
 
-impl States for Operations {
-    ghost Of = { Operation };
+impl States for UnitPlaces {
+    ghost Of = { UnitPlace };
 }
 
-/// Instructions of code.
-pub struct Instructions;
+/// Places of code.
+pub struct CodePlaces;
 
-impl States for Instructions {
-    ghost Of = { Instruction };
+impl States for CodePlaces {
+    ghost Of = { CodePlace };
 }
 
 /// Places of laid code.
 pub struct LaidPlaces;
 
 impl States for LaidPlaces {
-    ghost Of = { Laid };
+    ghost Of = { LaidPlace };
 }
 
 /// For each program, whose index is the byte that it writes, the numbers of bytes that are left.
@@ -57,20 +58,20 @@ impl Family for EachCount {
     ghost At = { λ byte. ℕ };
 }
 
-/// For each program its instructions.
-pub struct EachInstruction;
+/// For each program the places of its code.
+pub struct EachCodePlace;
 
-impl Family for EachInstruction {
+impl Family for EachCodePlace {
     ghost Index = { ℕ };
 
-    ghost At = { λ byte. Instruction };
+    ghost At = { λ byte. CodePlace };
 }
 
 /// For each weight the places of which no turn is heavier.
-pub struct EachLightPlace;
+pub struct EachLightWalk;
 
-impl Family for EachLightPlace {
+impl Family for EachLightWalk {
     ghost Index = { ℕ };
 
-    ghost At = { λ weight. LightPlace weight };
+    ghost At = { λ weight. HoldingState (IsLight weight) };
 }

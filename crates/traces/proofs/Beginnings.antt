@@ -1,9 +1,10 @@
--- A beginning of k steps that begins no turn adds what it costs to the constant of a weight.
-use Rattle.std.proofs.Common.{◌≡◌, ◌⊎◌, ℕ, ◌+◌, ◌*◌, ◌≤◌, ◌<◌, ◌-◌, List, refl, sym, ◌∙◌, ap, arith, inl, inr, ⊎_elim}
-use Rattle.traces.specs.Trace.{Label, Move, before, run, turns}
+-- A beginning of k steps.
+use Rattle.std.proofs.Common.{◌≡◌, ◌⊎◌, ℕ, ◌+◌, ◌*◌, ◌≤◌, ◌<◌, ◌-◌, List, refl, sym, ◌∙◌, ap, arith, inl, inr, ⊎_elim, []}
+use Rattle.traces.specs.Trace.{Event, Label, events, Move, before, run, turns, Behaviour, Seen}
 use Rattle.traces.specs.Steps.{Goes, Reaches, clock_of}
-use Rattle.traces.specs.Turns.{within_turns}
+use Rattle.traces.specs.Turns.{within_turns, ShowsByTurns, Moment, RefinesByTurns}
 use Rattle.traces.specs.Weight.{SeenWithin, PacedBy, Paced}
+use Rattle.traces.specs.Agree.{Covers, Costs}
 use Rattle.traces.proofs.Lists.{turns-append}
 use Rattle.traces.proofs.Runs.{run_grows}
 use Rattle.traces.proofs.Steps.{reaches_run}
@@ -67,3 +68,32 @@ pub paced_after_costs : {S : Type 0} (next : S → Move S) (cost : S → ℕ) (w
 paced_after_costs next cost w b s k ls t r plain p =
     paced_from_there next (clock_of next cost s) (clock_of next cost t) w b (clock_of next cost s k) s k ls t (reaches_run next s k ls t r) plain
     (λ j h. clock_rises next cost s j k h) (λ j. omega (arith, clock_reaches next cost s k ls t r j)) p
+
+-- a beginning that shows nothing
+module _ {T : Type 0} (next : T → Move T) (t : T) (k : ℕ) (t' : T) where
+  pub costs_after : (clock : ℕ → ℕ) (b : ℕ) (C : Behaviour) → Goes next t k [] t' → Covers (Costs clock b) C (run next t') → Covers (Costs clock (b + k)) C (run next t)
+  costs_after clock b C g p n =
+      let f = (p n).1 in
+      let m = (p n).0 in (
+        k + m,
+        record {
+          bound = omega (arith, f.bound);
+          does = record {
+            ahead = λ h. omega (arith, f.does.ahead h);
+            same_events = rw (g.by m) f.does.same_events;
+            same_end = λ d. rw (g.by m) (f.does.same_end d);
+          };
+        },
+      )
+
+  shows_after : Goes next t k [] t' → (n : ℕ) (s : Seen) → ShowsByTurns (run next t') n s → ShowsByTurns (run next t) n s
+  shows_after g n s p = record { steps = k + p.steps; past = rw (g.by p.steps) p.past; shown = rw (g.by p.steps) p.shown }
+
+  moment_after : Goes next t k [] t' → (n : ℕ) (es : List Event) → Moment (run next t') n es → Moment (run next t) n es
+  moment_after g n es p = record { steps = k + p.steps; few = rw (g.by p.steps) p.few; exact = rw (g.by p.steps) p.exact }
+
+  pub refines_after : (U : Behaviour) → Goes next t k [] t' → RefinesByTurns U (run next t') → RefinesByTurns U (run next t)
+  refines_after U g p = record {
+    same = λ n. let c = p.same n in record { common = c.common; first = c.first; second = λ d. shows_after g n c.common (c.second d) };
+    moments = λ n. moment_after g (turns (U n).trace) (events (U n).trace) (p.moments n);
+  }

@@ -4,8 +4,8 @@ use Rattle.std.proofs.Math.Path.{fun_ext}
 use Rattle.traces.specs.Trace.{Behaviour, Label, Turn, Took, Made, End, Move, Stand, Go, Halt, Seen, Unspecified, seen, before, at_rest, moved, run, events, turns}
 use Rattle.traces.specs.Turns.{IsDefined, ShowsByTurns, RefinesByTurns, cons, within, within_turns}
 use Rattle.traces.specs.Weight.{PacedBy}
-use Rattle.traces.specs.Agree.{end_as, outside, Does}
-use Rattle.traces.specs.TurnBounds.{CostsByTurns, outside_run}
+use Rattle.traces.specs.Agree.{end_as, outside, Does, outside_run}
+use Rattle.traces.specs.TurnBounds.{CostsByTurns}
 use Rattle.traces.specs.Machines.{outside_move, outside_machine}
 use Rattle.traces.proofs.Compose.{outside_defined}
 use Rattle.traces.proofs.Turns.{unspecified_or}

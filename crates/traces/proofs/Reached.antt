@@ -1,20 +1,14 @@
 -- What holds at each state that is reached.
-use Rattle.std.proofs.Common.{◌≡◌, ℕ, zero, suc, List, [], ◌∷◌, ◌++◌, length, drop, None, refl, sym, ◌∙◌, ap, subst}
-use Rattle.traces.specs.Trace.{Label, Turn, Took, Made, Read, Write, Move, Stand, Go, Halt, run, input_left}
+use Rattle.std.proofs.Common.{◌≡◌, ℕ, zero, suc, List, None, refl, sym, ◌∙◌, ap, subst}
+use Rattle.traces.specs.Trace.{Label, Move, Stand, Go, Halt, run, input_left}
 use Rattle.traces.specs.Steps.{Reaches, rests, goes}
 use Rattle.traces.specs.Moves.{To, InputMove, GoesTo}
+use Rattle.traces.proofs.Lists.{input_left-append}
 use Rattle.traces.proofs.Steps.{rest_go, run_go}
 
 -- a move that goes on does so to a state in which the invariant holds
 to_go : {S : Type 0} (Inv : S → Type 0) (x : Move S) (ls : List Label) (t : S) → x ≡ Go ls t → To Inv x → Inv t
 to_go Inv x ls t h y = subst (To Inv) h y
-
-pub input_left-append : (input : List ℕ) (a b : List Label) → input_left input (a ++ b) ≡ input_left (input_left input a) b
-input_left-append input [] b = refl
-input_left-append input (Turn x ∷ a) b = input_left-append input a b
-input_left-append input (Took ∷ a) b = input_left-append input a b
-input_left-append input (Made (Read fd bytes result) ∷ a) b = input_left-append (drop (length bytes) input) a b
-input_left-append input (Made (Write fd bytes result) ∷ a) b = input_left-append input a b
 
 module _ {S : Type 0} (next : S → Move S) (Inv : S → Type 0) (kept : (s : S) → Inv s → To Inv (next s)) where
   pub holds_reached : (s : S) (n : ℕ) (ls : List Label) (t : S) → Reaches next s n ls t → Inv s → Inv t

@@ -4,7 +4,7 @@ use Rattle.traces.specs.Trace.{Label, End, Move, run, input_left}
 use Rattle.traces.specs.Steps.{Reaches, clock_of}
 use Rattle.traces.specs.Weight.{PacedBy, Paced, OneEvent}
 use Rattle.traces.specs.Machines.{noted}
-use Rattle.traces.specs.Moves.{PacedMove, OneEventMove, EndsIn, InputMove, Holds, IsKept, GoesTo}
+use Rattle.traces.specs.Moves.{PacedMove, OneEventMove, OneEventStep, EndsIn, InputMove, Holds, IsKept, GoesTo}
 use Rattle.traces.specs.Plain.{NeverEnds}
 use Rattle.traces.specs.Endings.{Ending, with_ending, EndsQuietly, QuietMove, NotedMove}
 
@@ -21,6 +21,7 @@ pub record InvariantLaws (S I : Type 0) : Type 0 where
   pub paced_in_steps : (next : S → Move S) (state : I → S) → IsKept state next → (cost : S → ℕ) (w b : ℕ) (left : S → ℕ) → ((i : I) → 1 ≤ cost (state i)) → ((i : I) → PacedMove w left (left (state i)) (cost (state i)) (next (state i))) → (i : I) → left (state i) ≤ b → Paced w b (run next (state i))
   pub clock_at_most : (next : S → Move S) (state : I → S) → IsKept state next → (cost : S → ℕ) (K : ℕ) → ((i : I) → cost (state i) ≤ K) → (i : I) (n : ℕ) → clock_of next cost (state i) n ≤ K * n
   pub one_event_by_moves : (next : S → Move S) (state : I → S) → IsKept state next → ((i : I) → OneEventMove next (next (state i))) → (i : I) → OneEvent (run next (state i))
+  pub one_event_by_steps : (next : S → Move S) (state : I → S) → IsKept state next → ((i : I) → OneEventStep (next (state i))) → (i : I) → OneEvent (run next (state i))
   pub ends_quietly : (f : Ending) (next : S → Move S) (state : I → S) → IsKept state next → ((i : I) → QuietMove f next (next (state i))) → (i : I) → EndsQuietly f (run next (state i))
   pub input_reached : (next : S → Move S) (state : I → S) → IsKept state next → (input : S → List ℕ) → ((i : I) → InputMove input (input (state i)) (next (state i))) → (i : I) (n : ℕ) (ls : List Label) (t : S) → Reaches next (state i) n ls t → input t ≡ input_left (input (state i)) ls
   -- where each state comes after a trace, and tells what the ending shows after that trace, the machine that shows it too has the run

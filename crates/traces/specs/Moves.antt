@@ -7,8 +7,8 @@ abbrev pub OneTurn : List Label → Type 0
 OneTurn [] = Unit {0}
 OneTurn (x ∷ ls) = turns ls ≡ 0
 
--- a step begins at most one turn, and takes its cost from what is left of its turn, or begins a turn, for which there is w: `l`
--- is left before it, `after` after it
+-- a step that begins at most one turn. Before it `l` is left of the turn, after it `after`; it takes its cost from what is left,
+-- and each turn that it begins adds w
 pub record PacedStep (w l cost after : ℕ) (ls : List Label) : Type 0 where
   pub one_turn : OneTurn ls
   pub left : after + cost ≤ l + w * turns ls
@@ -25,7 +25,13 @@ OneEventMove next (Stand ls e) = Unit {0}
 OneEventMove next (Go ls s) = length (events ls) + length (events (at_rest (next s)).trace) ≤ 1
 OneEventMove next (Halt ls e) = length (events ls) ≤ 1
 
--- each move begins one turn, and to stand begins none
+-- a move that shows at most one event, and none where it stands
+abbrev pub OneEventStep : {S : Type 0} → Move S → Type 0
+OneEventStep (Stand ls e) = events ls ≡ []
+OneEventStep (Go ls s) = length (events ls) ≤ 1
+OneEventStep (Halt ls e) = length (events ls) ≤ 1
+
+-- a move that begins one turn, and none where it stands
 abbrev pub Ticking : {S : Type 0} → Move S → Type 0
 Ticking (Stand ls e) = turns ls ≡ 0
 Ticking (Go ls s) = turns ls ≡ 1
@@ -61,7 +67,12 @@ GoesTo Inv (Stand ls e) = ⊥
 GoesTo Inv (Go ls s) = Inv s
 GoesTo Inv (Halt ls e) = ⊥
 
--- a state in which an invariant holds: an invariant is a type with a map to the states in which it holds
+-- a state in which an invariant holds
+pub record HoldingState {S : Type 0} (Inv : S → Type 0) : Type 0 where
+  pub state : S
+  pub holds : Inv state
+
+-- in a clause an invariant is a type with a map to states, as the type of `HoldingState`s is; it holds in the states of the map
 abbrev pub Holds : {S I : Type 0} → (I → S) → S → Type 0
 Holds {S} {I} state s = (i : I) × (state i ≡ s)
 

@@ -29,15 +29,21 @@ Simulates next P L Rel K b (Stand ls e) t = Ends next P b (seen ls (Some e)) t
 Simulates next P L Rel K b (Go ls s) t = Matched next L Rel K ls s t
 Simulates next P L Rel K b (Halt ls e) t = Ends next P (K + b) (seen ls (Some e)) t × (run next t 0 ≡ seen [] None)
 
--- what is seen of the second fits by its events, and by its end where no unspecified value was used
+-- the second shows the events of the first, and its end where no unspecified value was used
 pub record Fits (c r : Seen) : Type 0 where
   pub same_events : events r.trace ≡ events c.trace
   pub same_end : IsDefined c → r.end ≡ end_as outside c.end
 
--- labels fit by their events
+-- two lists of labels have the same events
 abbrev pub SameEvents : List Label → List Label → Type 0
 SameEvents ls ls' = events ls' ≡ events ls
 
--- two states are related where one pair has them as its parts: so any relation of states is a type of pairs
+-- a pair of states that are related
+pub record RelatedPair {S T : Type 0} (Rel : S → T → Type 0) : Type 0 where
+  pub left : S
+  pub right : T
+  pub related : Rel left right
+
+-- two states are related where one pair has them as its parts. So any relation of states is a type of pairs
 abbrev pub Paired : {P S T : Type 0} → (P → S) → (P → T) → S → T → Type 0
 Paired {P} left right s t = (p : P) × (left p ≡ s) × (right p ≡ t)

@@ -1,8 +1,8 @@
 -- When a run by steps does what a unit does by turns, within a bound for each turn.
 use Rattle.std.specs.Prelude.{◌≡◌, ℕ, ◌+◌, ◌*◌, ◌≤◌}
-use Rattle.traces.specs.Trace.{Seen, Behaviour, seen, events, turns}
+use Rattle.traces.specs.Trace.{Seen, Behaviour, events, turns}
 use Rattle.traces.specs.Turns.{IsDefined, ShowsByTurns}
-use Rattle.traces.specs.Agree.{end_as, outside, Does}
+use Rattle.traces.specs.Agree.{Does}
 
 -- what the unit shows within n turns the run does within steps that cost at most w * n + b
 pub record DoesWithin (clock : ℕ → ℕ) (w b : ℕ) (V R : Behaviour) (n : ℕ) : Type 0 where
@@ -19,16 +19,12 @@ pub record EventsWithin (clock : ℕ → ℕ) (w b : ℕ) (V R : Behaviour) (k :
   pub bound : clock steps ≤ w * turns (V k).trace + b
   pub exact : events (R steps).trace ≡ events (V k).trace
 
--- the run does what the unit does, at a cost of at most w for each turn and b more, and while it runs in at least one step for
--- each turn. The clock tells what the first n steps of the run cost
+-- the run does what the unit does by turns, at a cost of at most w for each turn and b more. While the unit runs it takes at least
+-- one step for each turn. The clock tells what the first n steps of the run cost
 pub record CostsByTurns (clock : ℕ → ℕ) (w b : ℕ) (V R : Behaviour) : Type 0 where
   pub does : (n : ℕ) → DoesWithin clock w b V R n
   pub moments : (k : ℕ) → EventsWithin clock w b V R k
 
--- the same, where each step costs 1: within w steps for each turn and b more
+-- the run does what the unit does by turns, within w steps for each turn and b more
 abbrev pub FollowsByTurns : ℕ → ℕ → Behaviour → Behaviour → Type 0
 FollowsByTurns w b = CostsByTurns (λ n. n) w b
-
--- the run that ends `Outside` where this one has a guard event or stops
-abbrev pub outside_run : Behaviour → Behaviour
-outside_run R n = seen (R n).trace (end_as outside (R n).end)

@@ -14,6 +14,7 @@ laws c = record {
   to_unit = c.simulation_laws.ensures;
   to_swept = c.simulation_laws-2.ensures;
   to_code = c.simulation_laws-3.ensures;
+  meetings = c.meeting_laws.ensures;
   turns = c.turn_laws.ensures;
   agreements = c.agreement_laws.ensures;
 }

@@ -1,10 +1,10 @@
 use Rattle.std.proofs.Common.{◌≡◌, true, ◌≤◌, refl, arith}
-use Rattle.traces.specs.Moves.{PacedMove, OneEventMove, EndsIn, InputMove, Holds, To, GoesTo}
+use Rattle.traces.specs.Moves.{PacedMove, OneEventMove, OneEventStep, EndsIn, InputMove, Holds, To, GoesTo}
 use Rattle.traces.specs.Endings.{QuietMove}
 use Rattle.traces.proofs.Pairs.{at_state}
 use Rattle.traces.proofs.Runs.{ends_in}
 use Rattle.traces.proofs.Clocks.{clock_at_most}
-use Rattle.traces.proofs.Pace.{paced_by, paced_steps, one_event_by}
+use Rattle.traces.proofs.Pace.{paced_by, paced_steps, one_event_by, one_event_steps}
 use Rattle.traces.proofs.Endings.{ends_quietly, noted_run}
 use Rattle.traces.proofs.Reached.{holds_reached, input_reached, never_ends}
 use Rattle.traces.proofs.machine.invariant_laws.Goals as goal
@@ -19,6 +19,7 @@ returns g c index = record {
   paced_in_steps = λ next state kept cost w b left some h i l. paced_steps next cost w b left (Holds state) (at_state state (λ s. To (Holds state) (next s)) kept) (at_state state (λ s. PacedMove w left (left s) (cost s) (next s)) h) (at_state state (λ s. 1 ≤ cost s) some) (state i) (i, refl) l;
   clock_at_most = λ next state kept cost K h i n. clock_at_most next cost (Holds state) (at_state state (λ s. To (Holds state) (next s)) kept) K (at_state state (λ s. cost s ≤ K) h) n (state i) (i, refl);
   one_event_by_moves = λ next state kept h i. one_event_by next (Holds state) (at_state state (λ s. To (Holds state) (next s)) kept) (at_state state (λ s. OneEventMove next (next s)) h) (state i) (i, refl);
+  one_event_by_steps = λ next state kept h i. one_event_steps next (Holds state) (at_state state (λ s. To (Holds state) (next s)) kept) (at_state state (λ s. OneEventStep (next s)) h) (state i) (i, refl);
   ends_quietly = λ f next state kept h i. ends_quietly f next (Holds state) (at_state state (λ s. To (Holds state) (next s)) kept) (at_state state (λ s. QuietMove f next (next s)) h) (state i) (i, refl);
   input_reached = λ next state kept input h i n ls t r. input_reached next (Holds state) (at_state state (λ s. To (Holds state) (next s)) kept) input (at_state state (λ s. InputMove input (input s) (next s)) h) (state i) n ls t r (i, refl);
   noted_run = noted_run;

@@ -1,8 +1,7 @@
 use Rattle.traces.specs.Trace.{run}
 use Rattle.traces.proofs.Runs.{run_grows, end_comes, ends_once, agree}
-use Rattle.traces.proofs.Steps.{run_stand, rest_go, run_go, rest_halt, run_halt, goes_step, goes_then, reaches_step, reaches_then, reaches_once, reaches_run, reaches_goes, running_reaches, ended_reaches}
-use Rattle.traces.proofs.Adapt.{costs_after, refines_after}
-use Rattle.traces.proofs.Beginnings.{paced_after}
+use Rattle.traces.proofs.Steps.{run_stand, rest_go, run_go, rest_halt, run_halt, goes_step, goes_then, reaches_step, reaches_then, reaches_once, reaches_run, reaches_goes, running_reaches, ended_reaches, same_run, same_goes, marked_run, marked_goes}
+use Rattle.traces.proofs.Beginnings.{costs_after, paced_after, refines_after}
 use Rattle.traces.proofs.machine.run_laws.Goals as goal
 
 pub returns : goal.returns
@@ -28,4 +27,8 @@ returns g c = record {
   costs_after = λ next clock b C s k t. costs_after next s k t clock b C;
   paced_after = paced_after;
   refines_after = λ next U s k t. refines_after next s k t U;
+  same_run = same_run;
+  same_goes = same_goes;
+  marked_run = marked_run;
+  marked_goes = marked_goes;
 }
