@@ -151,8 +151,10 @@ in_vain =
     (0x2E ∷ 0x2E ∷ 0x2E ∷ 0x2E ∷ 0x2E ∷ 0x2E ∷ 0x2E ∷ 0x2E ∷ 0x2E ∷ 0x2E ∷ 0x2E ∷ 0x2E ∷ 0x2E ∷ 0x2E ∷ 0x2E ∷ 0x2E ∷ []) ∷
     []
 
+-- each row's bytes spell its instruction
 abbrev pub AllSpelled : Type 0
 AllSpelled = AllByRecursion (λ (row : List ℕ × Instr). Spells row.0 row.1) worked
 
+-- each row's bytes spell nothing
 abbrev pub NoneSpelled : Type 0
 NoneSpelled = AllByRecursion (λ (bytes : List ℕ). (i : Instr) → Spells bytes i → ⊥) in_vain

@@ -11,6 +11,7 @@ mod parts;
 mod reading;
 mod renamings;
 mod row;
+mod rows;
 mod spelling;
 
 pub use attributes::{can_half, half_in, has_operand, imm_size, key_of, prefixes_fit, width_of};
