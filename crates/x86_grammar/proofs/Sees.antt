@@ -185,13 +185,13 @@ module _ (c : Counts) (q : Row) (f : prefixes_fit q c ≡ true) where
   step_easy : (full : Bool) (n : ℕ) → step_row full n ≡ Some q → Easier (easiest (group.Steps full) c) q c
   step_easy false zero e = easier _ _ q c (λ g. g) (omega arith) e f
   step_easy false (suc zero) e = easier _ _ q c (λ g. g) (omega arith) e f
-  step_easy true zero e = no_hint_easy (eqb c.hints 0) true _ refl (λ g. g) e
-  step_easy true (suc zero) e = no_hint_easy (eqb c.hints 0) true _ refl (λ g. g) e
-  step_easy true (suc (suc zero)) e = hint_easy (eqb c.hints 0) _ refl (λ g. g) e
+  step_easy true zero e = no_hint_easy (eqb c.hints 0) true (row.Inc true) refl (λ g. g) e
+  step_easy true (suc zero) e = no_hint_easy (eqb c.hints 0) true (row.Dec true) refl (λ g. g) e
+  step_easy true (suc (suc zero)) e = hint_easy (eqb c.hints 0) row.CallTo refl (λ g. g) e
   step_easy true (suc (suc (suc zero))) e = absurd (none_row q e)
-  step_easy true (suc (suc (suc (suc zero)))) e = hint_easy (eqb c.hints 0) _ refl (λ g. g) e
+  step_easy true (suc (suc (suc (suc zero)))) e = hint_easy (eqb c.hints 0) row.JmpTo refl (λ g. g) e
   step_easy true (suc (suc (suc (suc (suc zero))))) e = absurd (none_row q e)
-  step_easy true (suc (suc (suc (suc (suc (suc zero)))))) e = no_hint_easy (eqb c.hints 0) false _ refl (λ g. g) e
+  step_easy true (suc (suc (suc (suc (suc (suc zero)))))) e = no_hint_easy (eqb c.hints 0) false row.Push refl (λ g. g) e
   step_easy true (suc (suc (suc (suc (suc (suc (suc n))))))) e = absurd (none_row q e)
   step_easy false (suc (suc n)) e = absurd (none_row q e)
 

@@ -7,7 +7,7 @@ use Rattle.x86_grammar.specs.declared.row.Row.{Row}
 use Rattle.x86_grammar.specs.declared.row.F3.{F3}
 use Rattle.x86_grammar.specs.declared.row.F3.TheVariants as f3
 use Rattle.x86_grammar.specs.declared.row.ImmSize.{ImmSize}
-use Rattle.x86_grammar.specs.declared.row.ImmSize.TheVariants.{Bytes, Operand}
+use Rattle.x86_grammar.specs.declared.row.ImmSize.TheVariants.{NoImm, Imm8, Imm16, Imm32, ImmOperand}
 use Rattle.x86_grammar.specs.Rows.{attributes_of}
 
 -- the width of an opcode, by its w bit and whether one 66 stands
@@ -25,8 +25,11 @@ can_half r = (attributes_of r).prefixes.operand_size
 
 -- the bytes of a number at the end
 abbrev pub size_in : ImmSize → Bool → ℕ
-size_in (Bytes n) half = n
-size_in (Operand w) half = wide_size w half
+size_in NoImm half = 0
+size_in Imm8 half = 1
+size_in Imm16 half = 2
+size_in Imm32 half = 4
+size_in (ImmOperand w) half = wide_size w half
 
 abbrev pub imm_size : Row → Bool → ℕ
 imm_size r half = size_in (attributes_of r).imm half

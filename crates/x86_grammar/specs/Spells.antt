@@ -5,8 +5,9 @@ use Rattle.x86_types.specs.declared.instr.Instr.{Instr}
 use Rattle.x86_grammar.specs.declared.row.Form.{Form}
 use Rattle.x86_grammar.specs.declared.row.Row.{Row}
 use Rattle.x86_grammar.specs.declared.row.Counts.{Counts}
-use Rattle.x86_grammar.specs.Rows.{key_of, has_operand}
-use Rattle.x86_grammar.specs.Attributes.{can_half, any_halves, any_segments, can_hint, rep_fits, imm_size}
+use Rattle.x86_grammar.specs.declared.row.Prefixes.{Prefixes}
+use Rattle.x86_grammar.specs.Rows.{attributes_of, key_of, has_operand}
+use Rattle.x86_grammar.specs.Attributes.{f3_fits, imm_size}
 use Rattle.x86_grammar.specs.Forms.{In, forms}
 use Rattle.x86_grammar.specs.Operand.{Operand, IsOperand, operand_bytes, rm_of, le}
 
@@ -32,12 +33,20 @@ counted c (b ∷ ps) = counted (more c b) ps
 abbrev pub counts_of : List ℕ → Counts
 counts_of ps = counted no_counts ps
 
--- the prefixes are those that the row knows
+-- whether one 66 makes width Two
+abbrev pub known_half : Prefixes → Counts → Bool
+known_half k c = c.halves == 1 && k.operand_size
+
+-- whether the prefixes are among those that are known
+abbrev pub known_fit : Prefixes → Counts → Bool
+known_fit k c = ((c.halves == 0 || known_half k c) || k.any_66) && (c.segments == 0 || k.any_2e) && (c.hints == 0 || (c.hints == 1 && k.one_3e)) && nat_lt c.repeats 2 && f3_fits k.f3 (c.repeats == 1)
+
+-- those of a row
 abbrev pub prefixes_fit : Row → Counts → Bool
-prefixes_fit r c = ((c.halves == 0 || (c.halves == 1 && can_half r)) || any_halves r) && (c.segments == 0 || any_segments r) && (c.hints == 0 || (c.hints == 1 && can_hint r)) && nat_lt c.repeats 2 && rep_fits r (c.repeats == 1)
+prefixes_fit r c = known_fit (attributes_of r).prefixes c
 
 abbrev pub half_in : Row → Counts → Bool
-half_in r c = c.halves == 1 && can_half r
+half_in r c = known_half (attributes_of r).prefixes c
 
 abbrev pub opcode_bytes : ℕ → List ℕ
 opcode_bytes key = if nat_lt key 256 then key ∷ [] else 15 ∷ (key - 256) ∷ []

@@ -151,11 +151,15 @@ pub struct Prefixes {
     pub f3: F3,
 }
 
-/// The number at the end of a row: so many bytes, or as many as the operand has, by the w bit.
+/// The number at the end of a row: none, of 8, 16 or 32 bits, or of the operand's width, by the w bit. Intel SDM
+/// volume 2, section 3.1.1.1 ("ib", "iw", "id").
 #[derive(Clone, Copy)]
 pub enum ImmSize {
-    Bytes(u8),
-    Operand(bool),
+    NoImm,
+    Imm8,
+    Imm16,
+    Imm32,
+    ImmOperand(bool),
 }
 
 /// What is known of a row: its opcode, with 0x100 for 0F before the byte, whether ModRM stands behind it, ModRM's

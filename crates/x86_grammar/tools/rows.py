@@ -209,12 +209,16 @@ def rust_reg_field(row):
     return {"s": "Is(shift_number(op))", "x": "not_eax(reg)"}.get(row[3], f"Is({row[3]})")
 
 
+# a fixed number of bytes at the end
+IMM = {"0": "NoImm", "1": "Imm8", "2": "Imm16", "4": "Imm32"}
+
+
 def spec_imm(row):
-    return {"w": "(Operand w)", "2/4": "(Operand true)"}.get(row[6], f"(Bytes {row[6]})")
+    return {"w": "(ImmOperand w)", "2/4": "(ImmOperand true)"}.get(row[6]) or IMM[row[6]]
 
 
 def rust_imm(row):
-    return {"w": "Operand(w)", "2/4": "Operand(true)"}.get(row[6], f"Bytes({row[6]})")
+    return {"w": "ImmOperand(w)", "2/4": "ImmOperand(true)"}.get(row[6]) or IMM[row[6]]
 
 
 ROWS_HEAD = """-- Written by tools/rows.py.
@@ -231,7 +235,7 @@ use Rattle.x86_grammar.specs.declared.row.Attributes.{Attributes}
 use Rattle.x86_grammar.specs.declared.row.F3.{F3}
 use Rattle.x86_grammar.specs.declared.row.F3.TheVariants.{Never, May, Must}
 use Rattle.x86_grammar.specs.declared.row.ImmSize.{ImmSize}
-use Rattle.x86_grammar.specs.declared.row.ImmSize.TheVariants.{Bytes, Operand}
+use Rattle.x86_grammar.specs.declared.row.ImmSize.TheVariants.{NoImm, Imm8, Imm16, Imm32, ImmOperand}
 use Rattle.x86_grammar.specs.declared.row.Prefixes.{Prefixes}
 use Rattle.x86_grammar.specs.declared.row.RegField.{RegField}
 use Rattle.x86_grammar.specs.declared.row.RegField.TheVariants.{Any, Is, Nowhere}
@@ -327,7 +331,7 @@ ghost use Rattle.std.specs.Prelude.{◌≡◌, ◌<◌};
 ghost use Rattle.x86_types.specs.Numbers.{number_of_alu, number_of_cond, number_of_reg};
 ghost use Rattle.x86_grammar.specs.Rows as spec;
 
-use crate::row::ImmSize::{Bytes, Operand};
+use crate::row::ImmSize::{Imm8, Imm16, Imm32, ImmOperand, NoImm};
 use crate::row::RegField::{Any, Is, Nowhere};
 use crate::row::{Attributes, F3, ImmSize, Prefixes, RegField, Row};
 use x86_types::{AluOp, Cond, Reg, alu_number, cond_number, reg_number, shift_number};
@@ -460,7 +464,7 @@ fn alone(opcode: u16, reg_field: RegField, prefixes: Prefixes, imm: ImmSize) -> 
 }
 
 /// The facts of a row. In its opcode 0x100 stands for 0F before the byte.
-pub(crate) fn attributes_of(row: Row) -> Attributes
+pub fn attributes_of(row: Row) -> Attributes
     ensures attributes { result ≡ spec.attributes_of row }
     ensures small { result.opcode < 512 }
 {

@@ -3,7 +3,7 @@ ghost use Rattle.x86_grammar.specs.Attributes as spec;
 ghost use Rattle.x86_grammar.specs.Rows as rows;
 ghost use Rattle.x86_grammar.specs.Spells as spells;
 
-use crate::row::{Counts, F3, ImmSize, Row};
+use crate::row::{Counts, F3, ImmSize, Prefixes, Row};
 use crate::rows::attributes_of;
 use x86_types::Width;
 
@@ -47,15 +47,26 @@ fn wide_size(w: bool, half: bool) -> u8
     width_of(w, half).size()
 }
 
-/// The bytes of the number at the row's end: none, one, two or four.
+/// The bytes of a number at the end: none, one, two or four.
+pub fn size_in(imm: ImmSize, half: bool) -> u8
+    ensures size { result ≡ spec.size_in imm half }
+    ensures few { result ≤ 4 }
+{
+    match imm {
+        ImmSize::NoImm => 0,
+        ImmSize::Imm8 => 1,
+        ImmSize::Imm16 => 2,
+        ImmSize::Imm32 => 4,
+        ImmSize::ImmOperand(w) => wide_size(w, half),
+    }
+}
+
+/// The bytes of the number at the row's end.
 pub fn imm_size(row: Row, half: bool) -> u8
     ensures size { result ≡ spec.imm_size row half }
     ensures few { result ≤ 4 }
 {
-    match attributes_of(row).imm {
-        ImmSize::Bytes(bytes) => bytes,
-        ImmSize::Operand(w) => wide_size(w, half),
-    }
+    size_in(attributes_of(row).imm, half)
 }
 
 fn f3_fits(f3: F3, rep: bool) -> bool
@@ -68,21 +79,34 @@ fn f3_fits(f3: F3, rep: bool) -> bool
     }
 }
 
-/// Whether 66 makes width Two: exactly one stands, and the row knows it.
+/// Whether 66 makes width Two: exactly one stands, and it is known.
+pub fn known_half(known: Prefixes, counts: Counts) -> bool
+    ensures { result ≡ spells.known_half known counts }
+{
+    counts.halves == 1 && known.operand_size
+}
+
+/// Whether the prefixes are among those that are known.
+pub fn known_fit(known: Prefixes, counts: Counts) -> bool
+    ensures { result ≡ spells.known_fit known counts }
+{
+    (counts.halves == 0 || known_half(known, counts) || known.any_66)
+        && (counts.segments == 0 || known.any_2e)
+        && (counts.hints == 0 || (counts.hints == 1 && known.one_3e))
+        && counts.repeats < 2
+        && f3_fits(known.f3, counts.repeats == 1)
+}
+
+/// Whether 66 makes width Two behind those prefixes.
 pub fn half_in(row: Row, counts: Counts) -> bool
     ensures { result ≡ spells.half_in row counts }
 {
-    counts.halves == 1 && can_half(row)
+    known_half(attributes_of(row).prefixes, counts)
 }
 
 /// Whether the prefixes are those that the row knows.
 pub fn prefixes_fit(row: Row, counts: Counts) -> bool
     ensures { result ≡ spells.prefixes_fit row counts }
 {
-    let known = attributes_of(row).prefixes;
-    (counts.halves == 0 || (counts.halves == 1 && known.operand_size) || known.any_66)
-        && (counts.segments == 0 || known.any_2e)
-        && (counts.hints == 0 || (counts.hints == 1 && known.one_3e))
-        && counts.repeats < 2
-        && f3_fits(known.f3, counts.repeats == 1)
+    known_fit(attributes_of(row).prefixes, counts)
 }
