@@ -1,7 +1,7 @@
 ghost use Rattle.std.specs.Prelude.{◌≡◌, ◌+◌, ◌*◌, ◌≤◌, ◌<◌, ◌^◌, length};
 ghost use Rattle.x86_grammar.specs.Operand.{disp_size, from_le};
 ghost use Rattle.x86_grammar.specs.Reading as reading;
-ghost use Rattle.x86_grammar.specs.Rows.{attributes_of};
+ghost use Rattle.x86_grammar.specs.Rows.{attributes_of, bit};
 ghost use Rattle.x86_grammar.specs.Spells as spells;
 ghost use Rattle.x86_grammar.specs.Table as table;
 
@@ -133,7 +133,7 @@ fn plain_at(row: Row, known: Attributes, counts: Counts, bytes: &[u8]) -> Seen
     ensures { result ≡ reading.plain_at row counts bytes.now }
 {
     if known_fit(known.prefixes, counts) {
-        numbers(row, known, counts, 192, 0, 0, bytes)
+        numbers(row, known, counts, 0xC0, 0, 0, bytes)
     } else {
         Seen::Never
     }
@@ -225,7 +225,7 @@ fn after_escape(counts: Counts, bytes: &[u8]) -> Seen
 {
     match bytes {
         [] => needs(least_escaped(counts)),
-        [byte, rest @ ..] => after_opcode(entry_at(256 + *byte as u16), counts, rest),
+        [byte, rest @ ..] => after_opcode(entry_at(0x100 + *byte as u16), counts, rest),
     }
 }
 
@@ -246,8 +246,8 @@ fn is_prefix(byte: u8) -> bool
     byte == 0x66 || byte == 0x2E || byte == 0x3E || byte == 0xF3
 }
 
-fn one_if(holds: bool) -> u8
-    ensures value { result ≡ spells.one_if holds }
+fn bit(holds: bool) -> u8
+    ensures value { result ≡ bit holds }
     ensures small { result ≤ 1 }
 {
     if holds { 1 } else { 0 }
@@ -261,10 +261,10 @@ fn more(counts: Counts, byte: u8) -> Counts
     ensures { result ≡ spells.more counts byte }
 {
     Counts {
-        halves: counts.halves + one_if(byte == 0x66),
-        segments: counts.segments + one_if(byte == 0x2E),
-        hints: counts.hints + one_if(byte == 0x3E),
-        repeats: counts.repeats + one_if(byte == 0xF3),
+        halves: counts.halves + bit(byte == 0x66),
+        segments: counts.segments + bit(byte == 0x2E),
+        hints: counts.hints + bit(byte == 0x3E),
+        repeats: counts.repeats + bit(byte == 0xF3),
     }
 }
 

@@ -52,9 +52,9 @@ In-append_right f (g ∷ gs) b h = inr (In-append_right f gs b h)
 
 -- a byte is told by its signed number
 pub signed_back : (w : Width) (b : ℕ) → b < 256 → signed w b % 256 ≡ b
-signed_back One b h = cond_both (ltb b 128) b (b + (256 ^ 1 - 256)) (λ x. x % 256 ≡ b) (λ e. omega arith) (λ e. omega arith)
-signed_back Two b h = cond_both (ltb b 128) b (b + (256 ^ 2 - 256)) (λ x. x % 256 ≡ b) (λ e. omega arith) (λ e. omega arith)
-signed_back Four b h = cond_both (ltb b 128) b (b + (256 ^ 4 - 256)) (λ x. x % 256 ≡ b) (λ e. omega arith) (λ e. omega arith)
+signed_back One b h = cond_both (ltb b 0x80) b (b + (256 ^ 1 - 256)) (λ x. x % 256 ≡ b) (λ e. omega arith) (λ e. omega arith)
+signed_back Two b h = cond_both (ltb b 0x80) b (b + (256 ^ 2 - 256)) (λ x. x % 256 ≡ b) (λ e. omega arith) (λ e. omega arith)
+signed_back Four b h = cond_both (ltb b 0x80) b (b + (256 ^ 4 - 256)) (λ x. x % 256 ≡ b) (λ e. omega arith) (λ e. omega arith)
 
 In-signed : (w : Width) (b : ℕ) (f : ℕ → Form) (x : Form) → b < 256 → x ≡ f b → In x (if_signed w (signed w b) f)
 In-signed w b f x h e = rw (signed_back w b h, eq-eqb (signed w b) (signed w b) refl) (inl e)

@@ -14,6 +14,7 @@ use Rattle.x86_types.specs.declared.operand.Src.TheVariants as src
 use Rattle.x86_types.specs.declared.instr.Instr.{Instr}
 use Rattle.x86_types.specs.declared.instr.Instr.TheVariants as instr
 use Rattle.x86_types.specs.Numbers.{size_of}
+use Rattle.x86_grammar.specs.Parts.{full_of}
 use Rattle.x86_grammar.specs.Spells.{Spells}
 
 abbrev pub number_fits : Width → ℕ → Bool
@@ -37,10 +38,6 @@ rm_fits (rm.Mem a) = address_fits a
 abbrev pub count_fits : Count → Bool
 count_fits (count.Imm v) = number_fits One v
 count_fits count.Cl = true
-
-abbrev pub is_wide : Width → Bool
-is_wide One = false
-is_wide _ = true
 
 abbrev pub moves_fit : Width → Rm → Src → Bool
 moves_fit w to (src.Reg r) = rm_fits to
@@ -68,7 +65,7 @@ abbrev pub fields_fit : Instr → Bool
 fields_fit (instr.Alu op w to from) = moves_fit w to from
 fields_fit (instr.Test w left right) = test_fits w left right
 fields_fit (instr.Mov w to from) = moves_fit w to from
-fields_fit (instr.Lea w to a) = is_wide w && address_fits a
+fields_fit (instr.Lea w to a) = full_of w && address_fits a
 fields_fit (instr.Inc w to) = rm_fits to
 fields_fit (instr.Dec w to) = rm_fits to
 fields_fit (instr.Not w to) = rm_fits to
@@ -77,8 +74,8 @@ fields_fit (instr.Mul w from) = rm_fits from
 fields_fit (instr.ImulWide w from) = rm_fits from
 fields_fit (instr.Div w from) = rm_fits from
 fields_fit (instr.Idiv w from) = rm_fits from
-fields_fit (instr.Imul w to from) = is_wide w && rm_fits from
-fields_fit (instr.ImulBy w to from by) = is_wide w && (rm_fits from && number_fits w by)
+fields_fit (instr.Imul w to from) = full_of w && rm_fits from
+fields_fit (instr.ImulBy w to from by) = full_of w && (rm_fits from && number_fits w by)
 fields_fit (instr.Shift op w to n) = rm_fits to && count_fits n
 fields_fit (instr.Shld to from n) = rm_fits to && count_fits n
 fields_fit (instr.Shrd to from n) = rm_fits to && count_fits n
@@ -87,12 +84,12 @@ fields_fit (instr.Pop to) = rm_fits to
 fields_fit (instr.Xchg w left right) = rm_fits left
 fields_fit (instr.Movzx wide w to from) = widens wide w && rm_fits from
 fields_fit (instr.Movsx wide w to from) = widens wide w && rm_fits from
-fields_fit (instr.Cmov c w to from) = is_wide w && rm_fits from
+fields_fit (instr.Cmov c w to from) = full_of w && rm_fits from
 fields_fit (instr.Setcc c to) = rm_fits to
-fields_fit (instr.Extend w) = is_wide w
-fields_fit (instr.Spread w) = is_wide w
-fields_fit (instr.Bsf w to from) = is_wide w && rm_fits from
-fields_fit (instr.Bsr w to from) = is_wide w && rm_fits from
+fields_fit (instr.Extend w) = full_of w
+fields_fit (instr.Spread w) = full_of w
+fields_fit (instr.Bsf w to from) = full_of w && rm_fits from
+fields_fit (instr.Bsr w to from) = full_of w && rm_fits from
 fields_fit (instr.Bswap to) = true
 fields_fit (instr.Movs w repeat) = true
 fields_fit (instr.Stos w repeat) = true

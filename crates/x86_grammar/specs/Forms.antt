@@ -162,9 +162,9 @@ forms (instr.Jcc c by) = plain (row.JccNear c) Four by ∷ if_signed Four by (λ
 forms (instr.Call by) = plain row.CallNear Four by ∷ []
 forms (instr.Ret drop) = ret_forms drop
 forms instr.Leave = plain row.Leave Four 0 ∷ []
-forms instr.Int80 = plain row.Int80 Four 128 ∷ []
+forms instr.Int80 = plain row.Int80 Four 0x80 ∷ []
 forms instr.Cld = plain row.Cld Four 0 ∷ []
-forms instr.Nop = plain row.Nop Four 0 ∷ plain row.NopLong Four 0 ∷ repeated row.NopEnd Four true 251 ∷ []
+forms instr.Nop = plain row.Nop Four 0 ∷ plain row.NopLong Four 0 ∷ repeated row.NopEnd Four true 0xFB ∷ []
 
 abbrev pub In : Form → List Form → Type 0
 In f [] = ⊥

@@ -20,7 +20,7 @@ from_le (suc k) [] = 0
 from_le (suc k) (b ∷ bytes) = b + 256 * from_le k bytes
 
 abbrev pub has_sib : ℕ → Bool
-has_sib m = nat_lt m 192 && m % 8 == 4
+has_sib m = nat_lt m 0xC0 && m % 8 == 4
 
 -- the field that names the base
 abbrev pub low_of : ℕ → ℕ → ℕ
@@ -66,7 +66,7 @@ abbrev pub address : ℕ → ℕ → ℕ → Address
 address m s d = record { base = base_of m s; index = index_of m s; scale = scale_of (index_of m s) s; disp = disp_of (disp_size m s) d }
 
 abbrev pub rm_of : ℕ → ℕ → ℕ → Rm
-rm_of m s d = if nat_lt m 192 then rm.Mem (address m s d) else rm.Reg (reg_of (m % 8))
+rm_of m s d = if nat_lt m 0xC0 then rm.Mem (address m s d) else rm.Reg (reg_of (m % 8))
 
 -- an operand as it is spelled, with 0 for a SIB that isn't there
 pub record Operand : Type 0 where

@@ -21,7 +21,7 @@ half_of _ = false
 
 -- a byte with its sign, at the width
 abbrev pub signed : Width → ℕ → ℕ
-signed w b = if nat_lt b 128 then b else b + (256 ^ size_of w - 256)
+signed w b = if nat_lt b 0x80 then b else b + (256 ^ size_of w - 256)
 
 -- a row with ModRM: the middle field, the operand, and the number at the end
 abbrev pub with_rm : Row → Width → ℕ → Rm → ℕ → Form

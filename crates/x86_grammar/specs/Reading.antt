@@ -53,7 +53,7 @@ m_at e easy c [] = if prefixes_fit easy c then Needs (1 + imm_size easy (half_in
 m_at e easy c (m ∷ bytes) = of_row (row_in e (m / 8 % 8)) c m bytes
 
 unfoldable pub plain_at : Row → Counts → List ℕ → Seen
-plain_at r c bytes = if prefixes_fit r c then numbers r c 192 0 0 bytes else Never
+plain_at r c bytes = if prefixes_fit r c then numbers r c 0xC0 0 0 bytes else Never
 
 -- the member of a group that takes most prefixes and fewest bytes
 abbrev pub easiest : Group → Counts → Row
@@ -105,10 +105,10 @@ needs (Some k) = Needs k
 
 unfoldable pub after_escape : Counts → List ℕ → Seen
 after_escape c [] = needs (least_escaped c)
-after_escape c (b ∷ bytes) = after_opcode (entry_of (256 + b)) c bytes
+after_escape c (b ∷ bytes) = after_opcode (entry_of (0x100 + b)) c bytes
 
 unfoldable pub at_opcode : Counts → ℕ → List ℕ → Seen
-at_opcode c b bytes = if b == 15 then after_escape c bytes else after_opcode (entry_of b) c bytes
+at_opcode c b bytes = if b == 0x0F then after_escape c bytes else after_opcode (entry_of b) c bytes
 
 unfoldable pub read_from : Counts → List ℕ → Seen
 read_from c [] = needs (least_opcode c)

@@ -6,21 +6,17 @@ use Rattle.x86_grammar.specs.declared.row.Form.{Form}
 use Rattle.x86_grammar.specs.declared.row.Row.{Row}
 use Rattle.x86_grammar.specs.declared.row.Counts.{Counts}
 use Rattle.x86_grammar.specs.declared.row.Prefixes.{Prefixes}
-use Rattle.x86_grammar.specs.Rows.{attributes_of, key_of, has_operand}
+use Rattle.x86_grammar.specs.Rows.{bit, attributes_of, key_of, has_operand}
 use Rattle.x86_grammar.specs.Attributes.{f3_fits, imm_size}
 use Rattle.x86_grammar.specs.Forms.{In, forms}
 use Rattle.x86_grammar.specs.Operand.{Operand, IsOperand, operand_bytes, rm_of, le}
 
 -- 66, 2E, 3E and F3
 abbrev pub is_prefix : ℕ → Bool
-is_prefix b = b == 102 || b == 46 || b == 62 || b == 243
-
-abbrev pub one_if : Bool → ℕ
-one_if true = 1
-one_if false = 0
+is_prefix b = b == 0x66 || b == 0x2E || b == 0x3E || b == 0xF3
 
 abbrev pub more : Counts → ℕ → Counts
-more c b = record { halves = c.halves + one_if (b == 102); segments = c.segments + one_if (b == 46); hints = c.hints + one_if (b == 62); repeats = c.repeats + one_if (b == 243) }
+more c b = record { halves = c.halves + bit (b == 0x66); segments = c.segments + bit (b == 0x2E); hints = c.hints + bit (b == 0x3E); repeats = c.repeats + bit (b == 0xF3) }
 
 abbrev pub no_counts : Counts
 no_counts = record { halves = 0; segments = 0; hints = 0; repeats = 0 }
@@ -49,7 +45,7 @@ abbrev pub half_in : Row → Counts → Bool
 half_in r c = known_half (attributes_of r).prefixes c
 
 abbrev pub opcode_bytes : ℕ → List ℕ
-opcode_bytes key = if nat_lt key 256 then key ∷ [] else 15 ∷ (key - 256) ∷ []
+opcode_bytes key = if nat_lt key 0x100 then key ∷ [] else 0x0F ∷ (key - 0x100) ∷ []
 
 -- a form on its prefixes and its operand
 pub record Spelling : Type 0 where

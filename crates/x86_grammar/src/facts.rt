@@ -10,7 +10,7 @@ use x86_types::Width;
 /// The row's opcode; 0x100 stands for 0F before the byte.
 pub fn key_of(row: Row) -> u16
     ensures key { result ≡ rows.key_of row }
-    ensures small { result < 512 }
+    ensures small { result < 0x200 }
 {
     attributes_of(row).opcode
 }

@@ -139,7 +139,7 @@ fn alone(opcode: u16, reg_field: RegField, prefixes: Prefixes, imm: ImmSize) -> 
 /// The facts of a row. In its opcode 0x100 stands for 0F before the byte.
 pub fn attributes_of(row: Row) -> Attributes
     ensures attributes { result ≡ spec.attributes_of row }
-    ensures small { result.opcode < 512 }
+    ensures small { result.opcode < 0x200 }
 {
     match row {
         Row::AluToRm(op, w) => modrm(8 * alu_bits(op) + bit(w), Any, sized(w), NoImm),

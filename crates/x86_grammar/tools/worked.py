@@ -203,7 +203,7 @@ def operand(parts):
         return 0, 0, 0
     rest = parts[1:]
     sib = 0
-    if parts[0] < 192 and parts[0] % 8 == 4:
+    if parts[0] < 0xC0 and parts[0] % 8 == 4:
         sib, rest = rest[0], rest[1:]
     return parts[0], sib, sum(byte << (8 * at) for at, byte in enumerate(rest))
 
