@@ -16,6 +16,7 @@ width_of false half = One
 width_of true true = Two
 width_of true false = Four
 
+-- the bytes of an operand
 abbrev pub wide_size : Bool → Bool → ℕ
 wide_size w half = size_of (width_of w half)
 
@@ -31,6 +32,7 @@ size_in Imm16 half = 2
 size_in Imm32 half = 4
 size_in (ImmOperand w) half = wide_size w half
 
+-- the bytes of a row's number at the end
 abbrev pub imm_size : Row → Bool → ℕ
 imm_size r half = size_in (attributes_of r).imm half
 
@@ -52,5 +54,6 @@ f3_fits f3.Never rep = not rep
 f3_fits f3.May rep = true
 f3_fits f3.Must rep = rep
 
+-- whether F3 stands as the row may or must have it
 abbrev pub rep_fits : Row → Bool → Bool
 rep_fits r rep = f3_fits (attributes_of r).prefixes.f3 rep

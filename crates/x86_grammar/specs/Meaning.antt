@@ -20,6 +20,7 @@ use Rattle.x86_grammar.specs.declared.row.Row.TheVariants as row
 use Rattle.x86_grammar.specs.Attributes.{width_of}
 use Rattle.x86_grammar.specs.Parts.{signed}
 
+-- an operand as a source
 abbrev pub src_of : Rm → Src
 src_of (rm.Reg r) = src.Reg r
 src_of (rm.Mem a) = src.Mem a
@@ -29,9 +30,11 @@ abbrev pub lea : Width → Reg → Rm → Option Instr
 lea w to (rm.Reg r) = None
 lea w to (rm.Mem a) = Some (instr.Lea w to a)
 
+-- an address without base and index
 abbrev pub number_alone : ℕ → Address
 number_alone d = record { base = None; index = None; scale = 1; disp = d }
 
+-- the instruction of a row with those parts
 abbrev pub build : Row → Bool → Bool → ℕ → Rm → ℕ → Option Instr
 build (row.AluToRm op w) half rep n m v = Some (instr.Alu op (width_of w half) m (src.Reg (reg_of n)))
 build (row.AluToReg op w) half rep n m v = Some (instr.Alu op (width_of w half) (rm.Reg (reg_of n)) (src_of m))

@@ -15,9 +15,11 @@ use Rattle.x86_grammar.specs.Operand.{Operand, IsOperand, operand_bytes, rm_of, 
 abbrev pub is_prefix : ℕ → Bool
 is_prefix b = b == 0x66 || b == 0x2E || b == 0x3E || b == 0xF3
 
+-- one prefix more
 abbrev pub more : Counts → ℕ → Counts
 more c b = record { halves = c.halves + bit (b == 0x66); segments = c.segments + bit (b == 0x2E); hints = c.hints + bit (b == 0x3E); repeats = c.repeats + bit (b == 0xF3) }
 
+-- no prefix
 abbrev pub no_counts : Counts
 no_counts = record { halves = 0; segments = 0; hints = 0; repeats = 0 }
 
@@ -26,6 +28,7 @@ abbrev pub counted : Counts → List ℕ → Counts
 counted c [] = c
 counted c (b ∷ ps) = counted (more c b) ps
 
+-- how many of each prefix
 abbrev pub counts_of : List ℕ → Counts
 counts_of ps = counted no_counts ps
 
@@ -41,9 +44,11 @@ known_fit k c = ((c.halves == 0 || known_half k c) || k.any_66) && (c.segments =
 abbrev pub prefixes_fit : Row → Counts → Bool
 prefixes_fit r c = known_fit (attributes_of r).prefixes c
 
+-- whether 66 makes width Two
 abbrev pub half_in : Row → Counts → Bool
 half_in r c = known_half (attributes_of r).prefixes c
 
+-- one byte, or 0F and a byte
 abbrev pub opcode_bytes : ℕ → List ℕ
 opcode_bytes key = if nat_lt key 0x100 then key ∷ [] else 0x0F ∷ (key - 0x100) ∷ []
 
@@ -53,10 +58,12 @@ pub record Spelling : Type 0 where
   pub form : Form
   pub operand : Operand
 
+-- ModRM with what follows it, where it stands
 abbrev pub operand_part : Bool → Operand → List ℕ
 operand_part true o = operand_bytes o
 operand_part false o = []
 
+-- prefixes, opcode, operand, and the number at the end
 abbrev pub bytes_of : Spelling → List ℕ
 bytes_of s = s.prefixes ++ (opcode_bytes (key_of s.form.row) ++ (operand_part (has_operand s.form.row) s.operand ++ le (imm_size s.form.row s.form.half) s.form.imm))
 
@@ -66,6 +73,8 @@ pub record Shows (o : Operand) (f : Form) : Type 0 where
   pub middle : o.m / 8 % 8 ≡ f.middle
   pub rm : IfSome f.rm (λ m. rm_of o.m o.sib o.disp ≡ m)
 
+-- The form is one of the instruction's, the prefixes are known and say what the form does, ModRM stands where the row
+-- has it, and the number at the end has its bytes.
 pub record IsSpelling (s : Spelling) (i : Instr) : Type 0 where
   pub among : In s.form (forms i)
   pub prefixes : AllByRecursion (λ b. is_prefix b ≡ true) s.prefixes

@@ -261,10 +261,11 @@ sized w = known w false false false Never
 abbrev pub sized_2e : Prefixes
 sized_2e = known true false true false Never
 
--- any number of 66, and of 66 and 2E
+-- any number of 66
 abbrev pub any_66 : Prefixes
 any_66 = known false true false false Never
 
+-- any number of 66 and of 2E
 abbrev pub any_66_2e : Prefixes
 any_66_2e = known false true true false Never
 
@@ -285,10 +286,11 @@ abbrev pub not_eax : Reg → RegField
 not_eax reg.Eax = Nowhere
 not_eax _ = Any
 
--- a row with ModRM, and one without
+-- a row with ModRM
 abbrev pub modrm : ℕ → RegField → Prefixes → ImmSize → Attributes
 modrm o n p i = record { opcode = o; modrm = true; reg_field = n; prefixes = p; imm = i }
 
+-- a row without ModRM
 abbrev pub alone : ℕ → RegField → Prefixes → ImmSize → Attributes
 alone o n p i = record { opcode = o; modrm = false; reg_field = n; prefixes = p; imm = i }
 
@@ -305,6 +307,7 @@ key_of r = (attributes_of r).opcode
 abbrev pub middle_of : Row → RegField
 middle_of r = (attributes_of r).reg_field
 
+-- whether a reg field is one of them
 abbrev pub fits_middle : RegField → ℕ → Bool
 fits_middle Any n = true
 fits_middle (Is m) n = m == n
@@ -516,6 +519,7 @@ use Rattle.x86_grammar.specs.declared.row.Row.TheVariants as row
 use Rattle.x86_grammar.specs.Attributes.{width_of}
 use Rattle.x86_grammar.specs.Parts.{signed}
 
+-- an operand as a source
 abbrev pub src_of : Rm → Src
 src_of (rm.Reg r) = src.Reg r
 src_of (rm.Mem a) = src.Mem a
@@ -525,9 +529,11 @@ abbrev pub lea : Width → Reg → Rm → Option Instr
 lea w to (rm.Reg r) = None
 lea w to (rm.Mem a) = Some (instr.Lea w to a)
 
+-- an address without base and index
 abbrev pub number_alone : ℕ → Address
 number_alone d = record { base = None; index = None; scale = 1; disp = d }
 
+-- the instruction of a row with those parts
 abbrev pub build : Row → Bool → Bool → ℕ → Rm → ℕ → Option Instr
 """
 
