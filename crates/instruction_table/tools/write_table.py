@@ -1,8 +1,12 @@
 #!/usr/bin/env python3
-"""Writes stdin and stdout of tools/rows.txt and of the lines below, in the crate's folder."""
+"""Writes stdin and stdout of tools/rows.txt and of the lines below, in the crate's folder.
+
+With --check it writes nothing, and ends with 1 where a file differs.
+"""
 
 import os
 import re
+import sys
 
 HERE = os.path.dirname(os.path.abspath(__file__))
 CRATE = os.path.dirname(HERE)
@@ -53,11 +57,21 @@ def rows():
 
 def main():
     table = list(rows()) + LINES
-    with open(os.path.join(CRATE, "stdin"), "wb") as file:
-        file.write(b"\n".join(text for text, _ in table))
-    with open(os.path.join(CRATE, "stdout"), "w") as file:
-        file.write("".join(expected + "\n" for _, expected in table))
-    print(len(table), "rows")
+    texts = {
+        "stdin": b"\n".join(text for text, _ in table),
+        "stdout": "".join(expected + "\n" for _, expected in table).encode(),
+    }
+    others = []
+    for name, text in texts.items():
+        path = os.path.join(CRATE, name)
+        if "--check" not in sys.argv[1:]:
+            with open(path, "wb") as file:
+                file.write(text)
+        elif open(path, "rb").read() != text:
+            others.append(path)
+    for path in others:
+        print(path, "is not what write_table.py writes")
+    sys.exit(1 if others else 0)
 
 
 if __name__ == "__main__":

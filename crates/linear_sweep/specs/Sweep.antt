@@ -7,9 +7,10 @@ use Rattle.x86_decode.specs.Decodes.{Decodes}
 use Rattle.linear_sweep.specs.declared.linear.Counts.{Counts}
 
 -- the bytes that are counted so far
-abbrev pub bytes_of : Counts → ℕ
-bytes_of c = c.spelled + (c.outside + c.short)
+abbrev pub counted_bytes : Counts → ℕ
+counted_bytes c = c.spelled + (c.outside + c.short)
 
+-- nothing is counted
 abbrev pub no_counts : Counts
 no_counts = record { instructions = 0; spelled = 0; outside = 0; short = 0 }
 
@@ -35,7 +36,7 @@ pub record Grows (bytes : List ℕ) (old new : Counts) : Type 0 where
   pub front : Decoded
   pub decodes : Decodes bytes front
   pub is : new ≡ counted old front
-  pub sum : bytes_of new ≡ bytes_of old + passed front
-  pub some : bytes_of old < bytes_of new
-  pub within : bytes_of new ≤ bytes_of old + length bytes
+  pub sum : counted_bytes new ≡ counted_bytes old + passed front
+  pub some : counted_bytes old < counted_bytes new
+  pub within : counted_bytes new ≤ counted_bytes old + length bytes
   pub few : new.instructions ≤ new.spelled

@@ -278,10 +278,10 @@ pub(crate) fn build(row: Row, half: bool, rep: bool, middle: u8, rm: Rm, imm: u3
         Row::Ret => Some(Instr::Ret { drop: 0 }),
         Row::RetDrop => Some(Instr::Ret { drop: imm as u16 }),
         Row::Leave => Some(Instr::Leave),
-        Row::Int80 => { if imm == 128 { Some(Instr::Int80) } else { None } }
+        Row::Int80 => { if imm == 0x80 { Some(Instr::Int80) } else { None } }
         Row::Cld => Some(Instr::Cld),
         Row::Nop => Some(Instr::Nop),
         Row::NopLong => Some(Instr::Nop),
-        Row::NopEnd => { if imm == 251 { Some(Instr::Nop) } else { None } }
+        Row::NopEnd => { if imm == 0xFB { Some(Instr::Nop) } else { None } }
     }
 }

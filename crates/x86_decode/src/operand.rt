@@ -8,7 +8,7 @@ use x86_types::{Address, Reg, Rm, Width, reg_at};
 pub(crate) fn has_sib(m: u8) -> bool
     ensures { result ≡ spec.has_sib m }
 {
-    m < 192 && m % 8 == 4
+    m < 0xC0 && m % 8 == 4
 }
 
 fn low_of(m: u8, sib: u8) -> u8
@@ -93,7 +93,7 @@ pub(crate) fn rm_of(m: u8, sib: u8, disp: u32) -> Rm
     requires fits { disp < 256 ^ spec.disp_size m sib }
     ensures { result ≡ spec.rm_of m sib disp }
 {
-    if m < 192 {
+    if m < 0xC0 {
         let index = index_of(m, sib);
         Rm::Mem(Address {
             base: base_of(m, sib),

@@ -1,13 +1,15 @@
 ghost use Rattle.std.specs.Prelude.{◌≡◌, ◌+◌, ◌*◌, ◌≤◌, ◌<◌, ◌^◌, length};
 ghost use Rattle.x86_grammar.specs.Operand.{disp_size, from_le};
 ghost use Rattle.x86_grammar.specs.Reading as reading;
+ghost use Rattle.x86_grammar.specs.Rows.{attributes_of, bit};
 ghost use Rattle.x86_grammar.specs.Spells as spells;
 ghost use Rattle.x86_grammar.specs.Table as table;
 
 use crate::meaning::build;
 use crate::operand::{disp_size, has_sib, mod_size, rm_of};
 use x86_grammar::{
-    Counts, Entry, Group, Row, Seen, entry_at, half_in, has_operand, imm_size, member, prefixes_fit,
+    Attributes, Counts, Entry, Group, Row, Seen, attributes_of, entry_at, half_in, imm_size, known_fit,
+    known_half, member, prefixes_fit, size_in,
 };
 use x86_types::ShiftOp;
 
@@ -32,13 +34,14 @@ fn number(size: u8, bytes: &[u8]) -> u32
 
 /// The displacement of `size` bytes and the number at the end, and what the parts mean together.
 #[tactic(auto, unfolding(x86_grammar::specs::Reading::numbers))]
-fn numbers(row: Row, counts: Counts, m: u8, sib: u8, size: u8, bytes: &[u8]) -> Seen
+fn numbers(row: Row, known: Attributes, counts: Counts, m: u8, sib: u8, size: u8, bytes: &[u8]) -> Seen
+    requires known { known ≡ attributes_of row }
     requires size { size ≡ disp_size m sib }
     requires few { size ≤ 4 }
     ensures { result ≡ reading.numbers row counts m sib size bytes.now }
 {
-    let half = half_in(row, counts);
-    let imm_bytes = imm_size(row, half);
+    let half = known_half(known.prefixes, counts);
+    let imm_bytes = size_in(known.imm, half);
     let all = size as usize + imm_bytes as usize;
     if bytes.len() < all {
         return Seen::Needs(all - bytes.len());
@@ -67,15 +70,16 @@ fn least_disp(m: u8) -> u8
 }
 
 #[tactic(auto, unfolding(x86_grammar::specs::Reading::sib_at))]
-fn sib_at(row: Row, counts: Counts, m: u8, bytes: &[u8]) -> Seen
+fn sib_at(row: Row, known: Attributes, counts: Counts, m: u8, bytes: &[u8]) -> Seen
+    requires known { known ≡ attributes_of row }
     ensures { result ≡ reading.sib_at row counts m bytes.now }
 {
     match bytes {
         [] => {
-            let imm_bytes = imm_size(row, half_in(row, counts));
+            let imm_bytes = size_in(known.imm, known_half(known.prefixes, counts));
             Seen::Needs(1 + (least_disp(m) as usize + imm_bytes as usize))
         }
-        [sib, rest @ ..] => numbers(row, counts, m, *sib, disp_size(m, *sib), rest),
+        [sib, rest @ ..] => numbers(row, known, counts, m, *sib, disp_size(m, *sib), rest),
     }
 }
 
@@ -83,13 +87,14 @@ fn sib_at(row: Row, counts: Counts, m: u8, bytes: &[u8]) -> Seen
 fn after_m(row: Row, counts: Counts, m: u8, bytes: &[u8]) -> Seen
     ensures { result ≡ reading.after_m row counts m bytes.now }
 {
-    if !prefixes_fit(row, counts) {
+    let known = attributes_of(row);
+    if !known_fit(known.prefixes, counts) {
         return Seen::Never;
     }
     if has_sib(m) {
-        sib_at(row, counts, m, bytes)
+        sib_at(row, known, counts, m, bytes)
     } else {
-        numbers(row, counts, m, 0, disp_size(m, 0), bytes)
+        numbers(row, known, counts, m, 0, disp_size(m, 0), bytes)
     }
 }
 
@@ -123,11 +128,12 @@ fn m_at(entry: Entry, easy: Row, counts: Counts, bytes: &[u8]) -> Seen
 }
 
 #[tactic(auto, unfolding(x86_grammar::specs::Reading::plain_at))]
-fn plain_at(row: Row, counts: Counts, bytes: &[u8]) -> Seen
+fn plain_at(row: Row, known: Attributes, counts: Counts, bytes: &[u8]) -> Seen
+    requires known { known ≡ attributes_of row }
     ensures { result ≡ reading.plain_at row counts bytes.now }
 {
-    if prefixes_fit(row, counts) {
-        numbers(row, counts, 192, 0, 0, bytes)
+    if known_fit(known.prefixes, counts) {
+        numbers(row, known, counts, 0xC0, 0, 0, bytes)
     } else {
         Seen::Never
     }
@@ -165,10 +171,11 @@ fn after_opcode(entry: Entry, counts: Counts, bytes: &[u8]) -> Seen
         Entry::Nothing => Seen::Never,
         Entry::By(group) => m_at(entry, easiest(group, counts), counts, bytes),
         Entry::One(row) => {
-            if has_operand(row) {
+            let known = attributes_of(row);
+            if known.modrm {
                 m_at(entry, row, counts, bytes)
             } else {
-                plain_at(row, counts, bytes)
+                plain_at(row, known, counts, bytes)
             }
         }
     }
@@ -218,7 +225,7 @@ fn after_escape(counts: Counts, bytes: &[u8]) -> Seen
 {
     match bytes {
         [] => needs(least_escaped(counts)),
-        [byte, rest @ ..] => after_opcode(entry_at(256 + *byte as u16), counts, rest),
+        [byte, rest @ ..] => after_opcode(entry_at(0x100 + *byte as u16), counts, rest),
     }
 }
 
@@ -239,8 +246,8 @@ fn is_prefix(byte: u8) -> bool
     byte == 0x66 || byte == 0x2E || byte == 0x3E || byte == 0xF3
 }
 
-fn one_if(holds: bool) -> u8
-    ensures value { result ≡ spells.one_if holds }
+fn bit(holds: bool) -> u8
+    ensures value { result ≡ bit holds }
     ensures small { result ≤ 1 }
 {
     if holds { 1 } else { 0 }
@@ -254,10 +261,10 @@ fn more(counts: Counts, byte: u8) -> Counts
     ensures { result ≡ spells.more counts byte }
 {
     Counts {
-        halves: counts.halves + one_if(byte == 0x66),
-        segments: counts.segments + one_if(byte == 0x2E),
-        hints: counts.hints + one_if(byte == 0x3E),
-        repeats: counts.repeats + one_if(byte == 0xF3),
+        halves: counts.halves + bit(byte == 0x66),
+        segments: counts.segments + bit(byte == 0x2E),
+        hints: counts.hints + bit(byte == 0x3E),
+        repeats: counts.repeats + bit(byte == 0xF3),
     }
 }
 

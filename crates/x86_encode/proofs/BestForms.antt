@@ -12,7 +12,8 @@ use Rattle.x86_grammar.specs.declared.row.Counts.{Counts}
 use Rattle.x86_grammar.specs.Rows.{key_of, has_operand}
 use Rattle.x86_grammar.specs.Attributes.{can_half, imm_size}
 use Rattle.x86_grammar.specs.Operand.{Operand, IsOperand, operand_bytes, rm_of, le, address}
-use Rattle.x86_grammar.specs.Spells.{Spelling, IsSpelling, bytes_of, opcode_bytes, operand_part, no_counts, counted, one_if}
+use Rattle.x86_grammar.specs.Spells.{Spelling, IsSpelling, bytes_of, opcode_bytes, operand_part, no_counts, counted}
+use Rattle.x86_grammar.specs.Rows.{bit}
 use Rattle.x86_encode.specs.BestOperand.{best_bytes}
 use Rattle.x86_encode.specs.BestForm.{best_prefixes, best_operand, best_part, form_best}
 use Rattle.x86_encode.proofs.Ordering.{and_left, NotAfter, NotAfter-refl, NotAfter-both}
@@ -70,7 +71,7 @@ module _ (reg_again : (n : ℕ) → n < 8 → number_of_reg (reg_of n) ≡ n) (o
 
 -- ---- prefixes
 
-two_prefixes : (x y : ℕ) (a b c d : Bool) → eqb x 102 ≡ a → eqb y 102 ≡ b → eqb x 243 ≡ c → eqb y 243 ≡ d → one_if a + one_if b ≡ 1 → one_if c + one_if d ≡ 1 → NotAfter (102 ∷ 243 ∷ []) (x ∷ y ∷ [])
+two_prefixes : (x y : ℕ) (a b c d : Bool) → eqb x 102 ≡ a → eqb y 102 ≡ b → eqb x 243 ≡ c → eqb y 243 ≡ d → bit a + bit b ≡ 1 → bit c + bit d ≡ 1 → NotAfter (102 ∷ 243 ∷ []) (x ∷ y ∷ [])
 two_prefixes x y true true c d p q r s h k = absurd (omega arith)
 two_prefixes x y false false c d p q r s h k = absurd (omega arith)
 two_prefixes x y a b true true p q r s h k = absurd (omega arith)
@@ -80,7 +81,7 @@ two_prefixes x y false true false true p q r s h k = let e = eqb-true y 102 q in
 two_prefixes x y true false false true p q r s h k = inr (refl, inr (sym (eqb-true x 102 p), inr (sym (eqb-true y 243 s), tt)))
 two_prefixes x y false true true false p q r s h k = let f = eqb-true x 243 r in inr (refl, inl (omega arith))
 
-one_prefix : (x : ℕ) (a c can : Bool) → eqb x 102 ≡ a → eqb x 243 ≡ c → NotAfter (best_prefixes (eqb (0 + one_if a) 1 && can) (eqb (0 + one_if c) 1)) (x ∷ [])
+one_prefix : (x : ℕ) (a c can : Bool) → eqb x 102 ≡ a → eqb x 243 ≡ c → NotAfter (best_prefixes (eqb (0 + bit a) 1 && can) (eqb (0 + bit c) 1)) (x ∷ [])
 one_prefix x true true can p r = let e = eqb-true x 102 p in let f = eqb-true x 243 r in absurd (omega arith)
 one_prefix x true false true p r = inr (refl, inr (sym (eqb-true x 102 p), tt))
 one_prefix x true false false p r = inl (omega arith)

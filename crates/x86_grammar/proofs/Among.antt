@@ -52,9 +52,9 @@ In-append_right f (g ∷ gs) b h = inr (In-append_right f gs b h)
 
 -- a byte is told by its signed number
 pub signed_back : (w : Width) (b : ℕ) → b < 256 → signed w b % 256 ≡ b
-signed_back One b h = cond_both (ltb b 128) b (b + (256 ^ 1 - 256)) (λ x. x % 256 ≡ b) (λ e. omega arith) (λ e. omega arith)
-signed_back Two b h = cond_both (ltb b 128) b (b + (256 ^ 2 - 256)) (λ x. x % 256 ≡ b) (λ e. omega arith) (λ e. omega arith)
-signed_back Four b h = cond_both (ltb b 128) b (b + (256 ^ 4 - 256)) (λ x. x % 256 ≡ b) (λ e. omega arith) (λ e. omega arith)
+signed_back One b h = cond_both (ltb b 0x80) b (b + (256 ^ 1 - 256)) (λ x. x % 256 ≡ b) (λ e. omega arith) (λ e. omega arith)
+signed_back Two b h = cond_both (ltb b 0x80) b (b + (256 ^ 2 - 256)) (λ x. x % 256 ≡ b) (λ e. omega arith) (λ e. omega arith)
+signed_back Four b h = cond_both (ltb b 0x80) b (b + (256 ^ 4 - 256)) (λ x. x % 256 ≡ b) (λ e. omega arith) (λ e. omega arith)
 
 In-signed : (w : Width) (b : ℕ) (f : ℕ → Form) (x : Form) → b < 256 → x ≡ f b → In x (if_signed w (signed w b) f)
 In-signed w b f x h e = rw (signed_back w b h, eq-eqb (signed w b) (signed w b) refl) (inl e)
@@ -110,70 +110,18 @@ module _ (r : Row) (h p : Bool) (n : ℕ) (m : Rm) (v : ℕ) (i j : Instr) where
 
 -- ---- the rows, by tools/among.py
 
-AluToRm_has : (op : AluOp) (f : Bool) → HasForm (row.AluToRm op f)
+AluToRm_has : (op : AluOp) (w : Bool) → HasForm (row.AluToRm op w)
 unfolding HasForm
-AluToRm_has op f h p n m v i x e = by_built _ h p n m v i _ e (inl (sized_form (row.AluToRm op) f h p _ _ _ _ _ x.suits.half x.suits.rep (sym (reg_again n x.middle)) (no_number v x.number)))
+AluToRm_has op w h p n m v i x e = by_built _ h p n m v i _ e (inl (sized_form (row.AluToRm op) w h p _ _ _ _ _ x.suits.half x.suits.rep (sym (reg_again n x.middle)) (no_number v x.number)))
 
-AluToReg_has : (op : AluOp) (f : Bool) → HasForm (row.AluToReg op f)
+AluToReg_has : (op : AluOp) (w : Bool) → HasForm (row.AluToReg op w)
 unfolding HasForm
-AluToReg_has op f h p n (rm.Reg q) v i x e = by_built _ h p n (rm.Reg q) v i _ e (inr (inl (sized_form (row.AluToReg op) f h p _ _ _ _ _ x.suits.half x.suits.rep (sym (reg_again n x.middle)) (no_number v x.number))))
-AluToReg_has op f h p n (rm.Mem a) v i x e = by_built _ h p n (rm.Mem a) v i _ e (inl (sized_form (row.AluToReg op) f h p _ _ _ _ _ x.suits.half x.suits.rep (sym (reg_again n x.middle)) (no_number v x.number)))
+AluToReg_has op w h p n (rm.Reg q) v i x e = by_built _ h p n (rm.Reg q) v i _ e (inr (inl (sized_form (row.AluToReg op) w h p _ _ _ _ _ x.suits.half x.suits.rep (sym (reg_again n x.middle)) (no_number v x.number))))
+AluToReg_has op w h p n (rm.Mem a) v i x e = by_built _ h p n (rm.Mem a) v i _ e (inl (sized_form (row.AluToReg op) w h p _ _ _ _ _ x.suits.half x.suits.rep (sym (reg_again n x.middle)) (no_number v x.number)))
 
-AluAcc_has : (op : AluOp) (f : Bool) → HasForm (row.AluAcc op f)
+AluAcc_has : (op : AluOp) (w : Bool) → HasForm (row.AluAcc op w)
 unfolding HasForm
-AluAcc_has op f h p n m v i x e = by_built _ h p n m v i _ e (inr (inl (sized_form (row.AluAcc op) f h p _ _ _ _ _ x.suits.half x.suits.rep (x.known refl) refl)))
-
-AluImm_has : (f : Bool) → HasForm (row.AluImm f)
-unfolding HasForm
-AluImm_has f h p n m v i x e = by_built _ h p n m v i _ e (inl (sized_form row.AluImm f h p _ _ _ _ _ x.suits.half x.suits.rep (sym (alu_again n x.middle)) refl))
-
-AluByte_has : HasForm row.AluByte
-unfolding HasForm
-AluByte_has false p n m v i x e = by_built _ false p n m v i _ e (inr (In-append_right _ (if_acc m _) _ (In-signed Four v (λ b. with_rm row.AluByte Four (number_of_alu (alu_of n)) m b) (form_of row.AluByte false p n m v) x.number (same_form _ _ _ _ _ _ _ _ _ _ _ refl refl (no_rep p x.suits.rep) (sym (alu_again n x.middle)) refl))))
-AluByte_has true p n m v i x e = by_built _ true p n m v i _ e (inr (In-append_right _ (if_acc m _) _ (In-signed Two v (λ b. with_rm row.AluByte Two (number_of_alu (alu_of n)) m b) (form_of row.AluByte true p n m v) x.number (same_form _ _ _ _ _ _ _ _ _ _ _ refl refl (no_rep p x.suits.rep) (sym (alu_again n x.middle)) refl))))
-
-TestRm_has : (f : Bool) → HasForm (row.TestRm f)
-unfolding HasForm
-TestRm_has f h p n m v i x e = by_built _ h p n m v i _ e (inl (sized_form row.TestRm f h p _ _ _ _ _ x.suits.half x.suits.rep (sym (reg_again n x.middle)) (no_number v x.number)))
-
-TestAcc_has : (f : Bool) → HasForm (row.TestAcc f)
-unfolding HasForm
-TestAcc_has f h p n m v i x e = by_built _ h p n m v i _ e (inr (inl (sized_form row.TestAcc f h p _ _ _ _ _ x.suits.half x.suits.rep (x.known refl) refl)))
-
-TestImm_has : (f : Bool) → HasForm (row.TestImm f)
-unfolding HasForm
-TestImm_has f h p n m v i x e = by_built _ h p n m v i _ e (inl (sized_form row.TestImm f h p _ _ _ _ _ x.suits.half x.suits.rep (middle_is 0 n x.suits.middle) refl))
-
-MovToRm_has : (f : Bool) → HasForm (row.MovToRm f)
-unfolding HasForm
-MovToRm_has f h p n m v i x e = by_built _ h p n m v i _ e (inl (sized_form row.MovToRm f h p _ _ _ _ _ x.suits.half x.suits.rep (sym (reg_again n x.middle)) (no_number v x.number)))
-
-MovToReg_has : (f : Bool) → HasForm (row.MovToReg f)
-unfolding HasForm
-MovToReg_has f h p n (rm.Reg q) v i x e = by_built _ h p n (rm.Reg q) v i _ e (inr (inl (sized_form row.MovToReg f h p _ _ _ _ _ x.suits.half x.suits.rep (sym (reg_again n x.middle)) (no_number v x.number))))
-MovToReg_has f h p n (rm.Mem a) v i x e = by_built _ h p n (rm.Mem a) v i _ e (inl (sized_form row.MovToReg f h p _ _ _ _ _ x.suits.half x.suits.rep (sym (reg_again n x.middle)) (no_number v x.number)))
-
-MovReg_has : (r : Reg) (f : Bool) → HasForm (row.MovReg r f)
-unfolding HasForm
-MovReg_has r f h p n m v i x e = by_built _ h p n m v i _ e (inr (inl (sized_form (row.MovReg r) f h p _ _ _ _ _ x.suits.half x.suits.rep (x.known refl) refl)))
-
-MovImm_has : (f : Bool) → HasForm (row.MovImm f)
-unfolding HasForm
-MovImm_has f h p n m v i x e = by_built _ h p n m v i _ e (inl (sized_form row.MovImm f h p _ _ _ _ _ x.suits.half x.suits.rep (middle_is 0 n x.suits.middle) refl))
-
-MovLoad_has : (f : Bool) → HasForm (row.MovLoad f)
-unfolding HasForm
-MovLoad_has f h p n m v i x e = by_built _ h p n m v i _ e (inr (inl (sized_form row.MovLoad f h p _ _ _ _ _ x.suits.half x.suits.rep (x.known refl) refl)))
-
-MovStore_has : (f : Bool) → HasForm (row.MovStore f)
-unfolding HasForm
-MovStore_has f h p n m v i x e = by_built _ h p n m v i _ e (inr (inl (sized_form row.MovStore f h p _ _ _ _ _ x.suits.half x.suits.rep (x.known refl) refl)))
-
-Lea_has : HasForm row.Lea
-unfolding HasForm
-Lea_has h p n (rm.Reg q) v i x e = absurd cc
-Lea_has false p n (rm.Mem a) v i x e = by_built _ false p n (rm.Mem a) v i _ e (inl (same_form _ _ _ _ _ _ _ _ _ _ _ refl refl (no_rep p x.suits.rep) (sym (reg_again n x.middle)) (no_number v x.number)))
-Lea_has true p n (rm.Mem a) v i x e = by_built _ true p n (rm.Mem a) v i _ e (inl (same_form _ _ _ _ _ _ _ _ _ _ _ refl refl (no_rep p x.suits.rep) (sym (reg_again n x.middle)) (no_number v x.number)))
+AluAcc_has op w h p n m v i x e = by_built _ h p n m v i _ e (inr (inl (sized_form (row.AluAcc op) w h p _ _ _ _ _ x.suits.half x.suits.rep (x.known refl) refl)))
 
 IncReg_has : (r : Reg) → HasForm (row.IncReg r)
 unfolding HasForm
@@ -185,109 +133,71 @@ unfolding HasForm
 DecReg_has r false p n m v i x e = by_built _ false p n m v i _ e (inr (inl (same_form _ _ _ _ _ _ _ _ _ _ _ refl refl (no_rep p x.suits.rep) (x.known refl) (no_number v x.number))))
 DecReg_has r true p n m v i x e = by_built _ true p n m v i _ e (inr (inl (same_form _ _ _ _ _ _ _ _ _ _ _ refl refl (no_rep p x.suits.rep) (x.known refl) (no_number v x.number))))
 
-Inc_has : (f : Bool) → HasForm (row.Inc f)
+PushReg_has : (r : Reg) → HasForm (row.PushReg r)
 unfolding HasForm
-Inc_has f h p n m v i x e = by_built _ h p n m v i _ e (inl (sized_form row.Inc f h p _ _ _ _ _ x.suits.half x.suits.rep (middle_is 0 n x.suits.middle) (no_number v x.number)))
+PushReg_has r h p n m v i x e = by_built _ h p n m v i _ e (inr (inl (fixed_form _ h p _ _ _ _ _ x.suits.half x.suits.rep (x.known refl) (no_number v x.number))))
 
-Dec_has : (f : Bool) → HasForm (row.Dec f)
+PopReg_has : (r : Reg) → HasForm (row.PopReg r)
 unfolding HasForm
-Dec_has f h p n m v i x e = by_built _ h p n m v i _ e (inl (sized_form row.Dec f h p _ _ _ _ _ x.suits.half x.suits.rep (middle_is 1 n x.suits.middle) (no_number v x.number)))
+PopReg_has r h p n m v i x e = by_built _ h p n m v i _ e (inr (inl (fixed_form _ h p _ _ _ _ _ x.suits.half x.suits.rep (x.known refl) (no_number v x.number))))
 
-Not_has : (f : Bool) → HasForm (row.Not f)
+PushWord_has : HasForm row.PushWord
 unfolding HasForm
-Not_has f h p n m v i x e = by_built _ h p n m v i _ e (inl (sized_form row.Not f h p _ _ _ _ _ x.suits.half x.suits.rep (middle_is 2 n x.suits.middle) (no_number v x.number)))
-
-Neg_has : (f : Bool) → HasForm (row.Neg f)
-unfolding HasForm
-Neg_has f h p n m v i x e = by_built _ h p n m v i _ e (inl (sized_form row.Neg f h p _ _ _ _ _ x.suits.half x.suits.rep (middle_is 3 n x.suits.middle) (no_number v x.number)))
-
-Mul_has : (f : Bool) → HasForm (row.Mul f)
-unfolding HasForm
-Mul_has f h p n m v i x e = by_built _ h p n m v i _ e (inl (sized_form row.Mul f h p _ _ _ _ _ x.suits.half x.suits.rep (middle_is 4 n x.suits.middle) (no_number v x.number)))
-
-ImulWide_has : (f : Bool) → HasForm (row.ImulWide f)
-unfolding HasForm
-ImulWide_has f h p n m v i x e = by_built _ h p n m v i _ e (inl (sized_form row.ImulWide f h p _ _ _ _ _ x.suits.half x.suits.rep (middle_is 5 n x.suits.middle) (no_number v x.number)))
-
-Div_has : (f : Bool) → HasForm (row.Div f)
-unfolding HasForm
-Div_has f h p n m v i x e = by_built _ h p n m v i _ e (inl (sized_form row.Div f h p _ _ _ _ _ x.suits.half x.suits.rep (middle_is 6 n x.suits.middle) (no_number v x.number)))
-
-Idiv_has : (f : Bool) → HasForm (row.Idiv f)
-unfolding HasForm
-Idiv_has f h p n m v i x e = by_built _ h p n m v i _ e (inl (sized_form row.Idiv f h p _ _ _ _ _ x.suits.half x.suits.rep (middle_is 7 n x.suits.middle) (no_number v x.number)))
-
-Imul_has : HasForm row.Imul
-unfolding HasForm
-Imul_has false p n m v i x e = by_built _ false p n m v i _ e (inl (same_form _ _ _ _ _ _ _ _ _ _ _ refl refl (no_rep p x.suits.rep) (sym (reg_again n x.middle)) (no_number v x.number)))
-Imul_has true p n m v i x e = by_built _ true p n m v i _ e (inl (same_form _ _ _ _ _ _ _ _ _ _ _ refl refl (no_rep p x.suits.rep) (sym (reg_again n x.middle)) (no_number v x.number)))
+PushWord_has h p n m v i x e = by_built _ h p n m v i _ e (inl (fixed_form _ h p _ _ _ _ _ x.suits.half x.suits.rep (x.known refl) refl))
 
 ImulWord_has : HasForm row.ImulWord
 unfolding HasForm
 ImulWord_has false p n m v i x e = by_built _ false p n m v i _ e (inl (same_form _ _ _ _ _ _ _ _ _ _ _ refl refl (no_rep p x.suits.rep) (sym (reg_again n x.middle)) refl))
 ImulWord_has true p n m v i x e = by_built _ true p n m v i _ e (inl (same_form _ _ _ _ _ _ _ _ _ _ _ refl refl (no_rep p x.suits.rep) (sym (reg_again n x.middle)) refl))
 
+PushByte_has : HasForm row.PushByte
+unfolding HasForm
+PushByte_has h p n m v i x e = by_built _ h p n m v i _ e (inr (In-signed Four v (λ b. plain row.PushByte Four b) (form_of row.PushByte h p n m v) x.number (fixed_form _ h p _ _ _ _ _ x.suits.half x.suits.rep (x.known refl) refl)))
+
 ImulByte_has : HasForm row.ImulByte
 unfolding HasForm
 ImulByte_has false p n m v i x e = by_built _ false p n m v i _ e (inr (In-signed Four v (λ b. with_rm row.ImulByte Four (number_of_reg (reg_of n)) m b) (form_of row.ImulByte false p n m v) x.number (same_form _ _ _ _ _ _ _ _ _ _ _ refl refl (no_rep p x.suits.rep) (sym (reg_again n x.middle)) refl)))
 ImulByte_has true p n m v i x e = by_built _ true p n m v i _ e (inr (In-signed Two v (λ b. with_rm row.ImulByte Two (number_of_reg (reg_of n)) m b) (form_of row.ImulByte true p n m v) x.number (same_form _ _ _ _ _ _ _ _ _ _ _ refl refl (no_rep p x.suits.rep) (sym (reg_again n x.middle)) refl)))
 
-ShiftImm_has : (op : ShiftOp) (f : Bool) → HasForm (row.ShiftImm op f)
+JccShort_has : (c : Cond) → HasForm (row.JccShort c)
 unfolding HasForm
-ShiftImm_has op f h p n m v i x e = by_built _ h p n m v i _ e (inl (sized_form (row.ShiftImm op) f h p _ _ _ _ _ x.suits.half x.suits.rep (middle_is (number_of_shift op) n x.suits.middle) refl))
+JccShort_has c h p n m v i x e = by_built _ h p n m v i _ e (inr (In-signed Four v (λ b. plain (row.JccShort c) Four b) (form_of (row.JccShort c) h p n m v) x.number (fixed_form _ h p _ _ _ _ _ x.suits.half x.suits.rep (x.known refl) refl)))
 
-ShiftOne_has : (op : ShiftOp) (f : Bool) → HasForm (row.ShiftOne op f)
+AluImm_has : (w : Bool) → HasForm (row.AluImm w)
 unfolding HasForm
-ShiftOne_has op f h p n m v i x e = by_built _ h p n m v i _ e (inr (inl (sized_form (row.ShiftOne op) f h p _ _ _ _ _ x.suits.half x.suits.rep (middle_is (number_of_shift op) n x.suits.middle) (no_number v x.number))))
+AluImm_has w h p n m v i x e = by_built _ h p n m v i _ e (inl (sized_form row.AluImm w h p _ _ _ _ _ x.suits.half x.suits.rep (sym (alu_again n x.middle)) refl))
 
-ShiftCl_has : (op : ShiftOp) (f : Bool) → HasForm (row.ShiftCl op f)
+AluByte_has : HasForm row.AluByte
 unfolding HasForm
-ShiftCl_has op f h p n m v i x e = by_built _ h p n m v i _ e (inl (sized_form (row.ShiftCl op) f h p _ _ _ _ _ x.suits.half x.suits.rep (middle_is (number_of_shift op) n x.suits.middle) (no_number v x.number)))
+AluByte_has false p n m v i x e = by_built _ false p n m v i _ e (inr (In-append_right _ (if_acc m _) _ (In-signed Four v (λ b. with_rm row.AluByte Four (number_of_alu (alu_of n)) m b) (form_of row.AluByte false p n m v) x.number (same_form _ _ _ _ _ _ _ _ _ _ _ refl refl (no_rep p x.suits.rep) (sym (alu_again n x.middle)) refl))))
+AluByte_has true p n m v i x e = by_built _ true p n m v i _ e (inr (In-append_right _ (if_acc m _) _ (In-signed Two v (λ b. with_rm row.AluByte Two (number_of_alu (alu_of n)) m b) (form_of row.AluByte true p n m v) x.number (same_form _ _ _ _ _ _ _ _ _ _ _ refl refl (no_rep p x.suits.rep) (sym (alu_again n x.middle)) refl))))
 
-ShldImm_has : HasForm row.ShldImm
+TestRm_has : (w : Bool) → HasForm (row.TestRm w)
 unfolding HasForm
-ShldImm_has h p n m v i x e = by_built _ h p n m v i _ e (inl (fixed_form _ h p _ _ _ _ _ x.suits.half x.suits.rep (sym (reg_again n x.middle)) refl))
+TestRm_has w h p n m v i x e = by_built _ h p n m v i _ e (inl (sized_form row.TestRm w h p _ _ _ _ _ x.suits.half x.suits.rep (sym (reg_again n x.middle)) (no_number v x.number)))
 
-ShldCl_has : HasForm row.ShldCl
+Xchg_has : (w : Bool) → HasForm (row.Xchg w)
 unfolding HasForm
-ShldCl_has h p n m v i x e = by_built _ h p n m v i _ e (inl (fixed_form _ h p _ _ _ _ _ x.suits.half x.suits.rep (sym (reg_again n x.middle)) (no_number v x.number)))
+Xchg_has w h p n m v i x e = by_built _ h p n m v i _ e (inl (sized_form row.Xchg w h p _ _ _ _ _ x.suits.half x.suits.rep (sym (reg_again n x.middle)) (no_number v x.number)))
 
-ShrdImm_has : HasForm row.ShrdImm
+MovToRm_has : (w : Bool) → HasForm (row.MovToRm w)
 unfolding HasForm
-ShrdImm_has h p n m v i x e = by_built _ h p n m v i _ e (inl (fixed_form _ h p _ _ _ _ _ x.suits.half x.suits.rep (sym (reg_again n x.middle)) refl))
+MovToRm_has w h p n m v i x e = by_built _ h p n m v i _ e (inl (sized_form row.MovToRm w h p _ _ _ _ _ x.suits.half x.suits.rep (sym (reg_again n x.middle)) (no_number v x.number)))
 
-ShrdCl_has : HasForm row.ShrdCl
+MovToReg_has : (w : Bool) → HasForm (row.MovToReg w)
 unfolding HasForm
-ShrdCl_has h p n m v i x e = by_built _ h p n m v i _ e (inl (fixed_form _ h p _ _ _ _ _ x.suits.half x.suits.rep (sym (reg_again n x.middle)) (no_number v x.number)))
+MovToReg_has w h p n (rm.Reg q) v i x e = by_built _ h p n (rm.Reg q) v i _ e (inr (inl (sized_form row.MovToReg w h p _ _ _ _ _ x.suits.half x.suits.rep (sym (reg_again n x.middle)) (no_number v x.number))))
+MovToReg_has w h p n (rm.Mem a) v i x e = by_built _ h p n (rm.Mem a) v i _ e (inl (sized_form row.MovToReg w h p _ _ _ _ _ x.suits.half x.suits.rep (sym (reg_again n x.middle)) (no_number v x.number)))
 
-PushReg_has : (r : Reg) → HasForm (row.PushReg r)
+Lea_has : HasForm row.Lea
 unfolding HasForm
-PushReg_has r h p n m v i x e = by_built _ h p n m v i _ e (inr (inl (fixed_form _ h p _ _ _ _ _ x.suits.half x.suits.rep (x.known refl) (no_number v x.number))))
-
-PushWord_has : HasForm row.PushWord
-unfolding HasForm
-PushWord_has h p n m v i x e = by_built _ h p n m v i _ e (inl (fixed_form _ h p _ _ _ _ _ x.suits.half x.suits.rep (x.known refl) refl))
-
-PushByte_has : HasForm row.PushByte
-unfolding HasForm
-PushByte_has h p n m v i x e = by_built _ h p n m v i _ e (inr (In-signed Four v (λ b. plain row.PushByte Four b) (form_of row.PushByte h p n m v) x.number (fixed_form _ h p _ _ _ _ _ x.suits.half x.suits.rep (x.known refl) refl)))
-
-Push_has : HasForm row.Push
-unfolding HasForm
-Push_has h p n (rm.Reg q) v i x e = by_built _ h p n (rm.Reg q) v i _ e (inl (fixed_form _ h p _ _ _ _ _ x.suits.half x.suits.rep (middle_is 6 n x.suits.middle) (no_number v x.number)))
-Push_has h p n (rm.Mem a) v i x e = by_built _ h p n (rm.Mem a) v i _ e (inl (fixed_form _ h p _ _ _ _ _ x.suits.half x.suits.rep (middle_is 6 n x.suits.middle) (no_number v x.number)))
-
-PopReg_has : (r : Reg) → HasForm (row.PopReg r)
-unfolding HasForm
-PopReg_has r h p n m v i x e = by_built _ h p n m v i _ e (inr (inl (fixed_form _ h p _ _ _ _ _ x.suits.half x.suits.rep (x.known refl) (no_number v x.number))))
+Lea_has h p n (rm.Reg q) v i x e = absurd cc
+Lea_has false p n (rm.Mem a) v i x e = by_built _ false p n (rm.Mem a) v i _ e (inl (same_form _ _ _ _ _ _ _ _ _ _ _ refl refl (no_rep p x.suits.rep) (sym (reg_again n x.middle)) (no_number v x.number)))
+Lea_has true p n (rm.Mem a) v i x e = by_built _ true p n (rm.Mem a) v i _ e (inl (same_form _ _ _ _ _ _ _ _ _ _ _ refl refl (no_rep p x.suits.rep) (sym (reg_again n x.middle)) (no_number v x.number)))
 
 Pop_has : HasForm row.Pop
 unfolding HasForm
 Pop_has h p n m v i x e = by_built _ h p n m v i _ e (inl (fixed_form _ h p _ _ _ _ _ x.suits.half x.suits.rep (middle_is 0 n x.suits.middle) (no_number v x.number)))
-
-Xchg_has : (f : Bool) → HasForm (row.Xchg f)
-unfolding HasForm
-Xchg_has f h p n m v i x e = by_built _ h p n m v i _ e (inl (sized_form row.Xchg f h p _ _ _ _ _ x.suits.half x.suits.rep (sym (reg_again n x.middle)) (no_number v x.number)))
 
 XchgAcc_has : (r : Reg) → HasForm (row.XchgAcc r)
 unfolding HasForm
@@ -307,32 +217,9 @@ XchgAcc_has reg.Esi true p n m v i x e = by_built _ true p n m v i _ e (inr (inl
 XchgAcc_has reg.Edi false p n m v i x e = by_built _ false p n m v i _ e (inr (inl (same_form _ _ _ _ _ _ _ _ _ _ _ refl refl (no_rep p x.suits.rep) (x.known refl) (no_number v x.number))))
 XchgAcc_has reg.Edi true p n m v i x e = by_built _ true p n m v i _ e (inr (inl (same_form _ _ _ _ _ _ _ _ _ _ _ refl refl (no_rep p x.suits.rep) (x.known refl) (no_number v x.number))))
 
-MovzxByte_has : HasForm row.MovzxByte
+Nop_has : HasForm row.Nop
 unfolding HasForm
-MovzxByte_has false p n m v i x e = by_built _ false p n m v i _ e (inl (same_form _ _ _ _ _ _ _ _ _ _ _ refl refl (no_rep p x.suits.rep) (sym (reg_again n x.middle)) (no_number v x.number)))
-MovzxByte_has true p n m v i x e = by_built _ true p n m v i _ e (inl (same_form _ _ _ _ _ _ _ _ _ _ _ refl refl (no_rep p x.suits.rep) (sym (reg_again n x.middle)) (no_number v x.number)))
-
-MovzxWord_has : HasForm row.MovzxWord
-unfolding HasForm
-MovzxWord_has h p n m v i x e = by_built _ h p n m v i _ e (inl (fixed_form _ h p _ _ _ _ _ x.suits.half x.suits.rep (sym (reg_again n x.middle)) (no_number v x.number)))
-
-MovsxByte_has : HasForm row.MovsxByte
-unfolding HasForm
-MovsxByte_has false p n m v i x e = by_built _ false p n m v i _ e (inl (same_form _ _ _ _ _ _ _ _ _ _ _ refl refl (no_rep p x.suits.rep) (sym (reg_again n x.middle)) (no_number v x.number)))
-MovsxByte_has true p n m v i x e = by_built _ true p n m v i _ e (inl (same_form _ _ _ _ _ _ _ _ _ _ _ refl refl (no_rep p x.suits.rep) (sym (reg_again n x.middle)) (no_number v x.number)))
-
-MovsxWord_has : HasForm row.MovsxWord
-unfolding HasForm
-MovsxWord_has h p n m v i x e = by_built _ h p n m v i _ e (inl (fixed_form _ h p _ _ _ _ _ x.suits.half x.suits.rep (sym (reg_again n x.middle)) (no_number v x.number)))
-
-Cmov_has : (c : Cond) → HasForm (row.Cmov c)
-unfolding HasForm
-Cmov_has c false p n m v i x e = by_built _ false p n m v i _ e (inl (same_form _ _ _ _ _ _ _ _ _ _ _ refl refl (no_rep p x.suits.rep) (sym (reg_again n x.middle)) (no_number v x.number)))
-Cmov_has c true p n m v i x e = by_built _ true p n m v i _ e (inl (same_form _ _ _ _ _ _ _ _ _ _ _ refl refl (no_rep p x.suits.rep) (sym (reg_again n x.middle)) (no_number v x.number)))
-
-Setcc_has : (c : Cond) → HasForm (row.Setcc c)
-unfolding HasForm
-Setcc_has c h p n m v i x e = by_built _ h p n m v i _ e (inl (fixed_form _ h p _ _ _ _ _ x.suits.half x.suits.rep (middle_is 0 n x.suits.middle) (no_number v x.number)))
+Nop_has h p n m v i x e = by_built _ h p n m v i _ e (inl (fixed_form _ h p _ _ _ _ _ x.suits.half x.suits.rep (x.known refl) (no_number v x.number)))
 
 Extend_has : HasForm row.Extend
 unfolding HasForm
@@ -344,6 +231,190 @@ unfolding HasForm
 Spread_has false p n m v i x e = by_built _ false p n m v i _ e (inl (same_form _ _ _ _ _ _ _ _ _ _ _ refl refl (no_rep p x.suits.rep) (x.known refl) (no_number v x.number)))
 Spread_has true p n m v i x e = by_built _ true p n m v i _ e (inl (same_form _ _ _ _ _ _ _ _ _ _ _ refl refl (no_rep p x.suits.rep) (x.known refl) (no_number v x.number)))
 
+MovLoad_has : (w : Bool) → HasForm (row.MovLoad w)
+unfolding HasForm
+MovLoad_has w h p n m v i x e = by_built _ h p n m v i _ e (inr (inl (sized_form row.MovLoad w h p _ _ _ _ _ x.suits.half x.suits.rep (x.known refl) refl)))
+
+MovStore_has : (w : Bool) → HasForm (row.MovStore w)
+unfolding HasForm
+MovStore_has w h p n m v i x e = by_built _ h p n m v i _ e (inr (inl (sized_form row.MovStore w h p _ _ _ _ _ x.suits.half x.suits.rep (x.known refl) refl)))
+
+Movs_has : (w : Bool) → HasForm (row.Movs w)
+unfolding HasForm
+Movs_has w h p n m v i x e = by_built _ h p n m v i _ e (inl (same_form _ _ _ _ _ _ _ _ _ _ _ (ap row.Movs (full_back w h)) (half_back w h x.suits.half) refl (x.known refl) (no_number v x.number)))
+
+TestAcc_has : (w : Bool) → HasForm (row.TestAcc w)
+unfolding HasForm
+TestAcc_has w h p n m v i x e = by_built _ h p n m v i _ e (inr (inl (sized_form row.TestAcc w h p _ _ _ _ _ x.suits.half x.suits.rep (x.known refl) refl)))
+
+Stos_has : (w : Bool) → HasForm (row.Stos w)
+unfolding HasForm
+Stos_has w h p n m v i x e = by_built _ h p n m v i _ e (inl (same_form _ _ _ _ _ _ _ _ _ _ _ (ap row.Stos (full_back w h)) (half_back w h x.suits.half) refl (x.known refl) (no_number v x.number)))
+
+MovReg_has : (r : Reg) (w : Bool) → HasForm (row.MovReg r w)
+unfolding HasForm
+MovReg_has r w h p n m v i x e = by_built _ h p n m v i _ e (inr (inl (sized_form (row.MovReg r) w h p _ _ _ _ _ x.suits.half x.suits.rep (x.known refl) refl)))
+
+ShiftImm_has : (op : ShiftOp) (w : Bool) → HasForm (row.ShiftImm op w)
+unfolding HasForm
+ShiftImm_has op w h p n m v i x e = by_built _ h p n m v i _ e (inl (sized_form (row.ShiftImm op) w h p _ _ _ _ _ x.suits.half x.suits.rep (middle_is (number_of_shift op) n x.suits.middle) refl))
+
+RetDrop_has : HasForm row.RetDrop
+unfolding HasForm
+RetDrop_has h p n m zero i x e = by_built _ h p n m zero i _ e (inl (fixed_form _ h p _ _ _ _ _ x.suits.half x.suits.rep (x.known refl) refl))
+RetDrop_has h p n m (suc v) i x e = by_built _ h p n m (suc v) i _ e (inl (fixed_form _ h p _ _ _ _ _ x.suits.half x.suits.rep (x.known refl) refl))
+
+Ret_has : HasForm row.Ret
+unfolding HasForm
+Ret_has h false n m v i x e = by_built _ h false n m v i _ e (inr (inl (same_form _ _ _ _ _ _ _ _ _ _ _ refl (no_half h x.suits.half) refl (x.known refl) (no_number v x.number))))
+Ret_has h true n m v i x e = by_built _ h true n m v i _ e (inr (inr (inl (same_form _ _ _ _ _ _ _ _ _ _ _ refl (no_half h x.suits.half) refl (x.known refl) (no_number v x.number)))))
+
+MovImm_has : (w : Bool) → HasForm (row.MovImm w)
+unfolding HasForm
+MovImm_has w h p n m v i x e = by_built _ h p n m v i _ e (inl (sized_form row.MovImm w h p _ _ _ _ _ x.suits.half x.suits.rep (middle_is 0 n x.suits.middle) refl))
+
+Leave_has : HasForm row.Leave
+unfolding HasForm
+Leave_has h p n m v i x e = by_built _ h p n m v i _ e (inl (fixed_form _ h p _ _ _ _ _ x.suits.half x.suits.rep (x.known refl) (no_number v x.number)))
+
+Int80_has : HasForm row.Int80
+unfolding HasForm
+Int80_has h p n m v i x e =
+    let g = chosen (eqb v 0x80) (Some instr.Int80) None (Some i) e in
+    elim g [
+      | inl t ↦ by_built _ h p n m v i _ t.1 (inl (same_form _ _ _ _ _ _ _ _ _ _ _ refl (no_half h x.suits.half) (no_rep p x.suits.rep) (x.known refl) (eqb-true _ _ t.0)))
+      | inr t ↦ absurd (none_some t.1)
+    ]
+
+ShiftOne_has : (op : ShiftOp) (w : Bool) → HasForm (row.ShiftOne op w)
+unfolding HasForm
+ShiftOne_has op w h p n m v i x e = by_built _ h p n m v i _ e (inr (inl (sized_form (row.ShiftOne op) w h p _ _ _ _ _ x.suits.half x.suits.rep (middle_is (number_of_shift op) n x.suits.middle) (no_number v x.number))))
+
+ShiftCl_has : (op : ShiftOp) (w : Bool) → HasForm (row.ShiftCl op w)
+unfolding HasForm
+ShiftCl_has op w h p n m v i x e = by_built _ h p n m v i _ e (inl (sized_form (row.ShiftCl op) w h p _ _ _ _ _ x.suits.half x.suits.rep (middle_is (number_of_shift op) n x.suits.middle) (no_number v x.number)))
+
+CallNear_has : HasForm row.CallNear
+unfolding HasForm
+CallNear_has h p n m v i x e = by_built _ h p n m v i _ e (inl (fixed_form _ h p _ _ _ _ _ x.suits.half x.suits.rep (x.known refl) refl))
+
+JmpNear_has : HasForm row.JmpNear
+unfolding HasForm
+JmpNear_has h p n m v i x e = by_built _ h p n m v i _ e (inl (fixed_form _ h p _ _ _ _ _ x.suits.half x.suits.rep (x.known refl) refl))
+
+JmpShort_has : HasForm row.JmpShort
+unfolding HasForm
+JmpShort_has h p n m v i x e = by_built _ h p n m v i _ e (inr (In-signed Four v (λ b. plain row.JmpShort Four b) (form_of row.JmpShort h p n m v) x.number (fixed_form _ h p _ _ _ _ _ x.suits.half x.suits.rep (x.known refl) refl)))
+
+TestImm_has : (w : Bool) → HasForm (row.TestImm w)
+unfolding HasForm
+TestImm_has w h p n m v i x e = by_built _ h p n m v i _ e (inl (sized_form row.TestImm w h p _ _ _ _ _ x.suits.half x.suits.rep (middle_is 0 n x.suits.middle) refl))
+
+Not_has : (w : Bool) → HasForm (row.Not w)
+unfolding HasForm
+Not_has w h p n m v i x e = by_built _ h p n m v i _ e (inl (sized_form row.Not w h p _ _ _ _ _ x.suits.half x.suits.rep (middle_is 2 n x.suits.middle) (no_number v x.number)))
+
+Neg_has : (w : Bool) → HasForm (row.Neg w)
+unfolding HasForm
+Neg_has w h p n m v i x e = by_built _ h p n m v i _ e (inl (sized_form row.Neg w h p _ _ _ _ _ x.suits.half x.suits.rep (middle_is 3 n x.suits.middle) (no_number v x.number)))
+
+Mul_has : (w : Bool) → HasForm (row.Mul w)
+unfolding HasForm
+Mul_has w h p n m v i x e = by_built _ h p n m v i _ e (inl (sized_form row.Mul w h p _ _ _ _ _ x.suits.half x.suits.rep (middle_is 4 n x.suits.middle) (no_number v x.number)))
+
+ImulWide_has : (w : Bool) → HasForm (row.ImulWide w)
+unfolding HasForm
+ImulWide_has w h p n m v i x e = by_built _ h p n m v i _ e (inl (sized_form row.ImulWide w h p _ _ _ _ _ x.suits.half x.suits.rep (middle_is 5 n x.suits.middle) (no_number v x.number)))
+
+Div_has : (w : Bool) → HasForm (row.Div w)
+unfolding HasForm
+Div_has w h p n m v i x e = by_built _ h p n m v i _ e (inl (sized_form row.Div w h p _ _ _ _ _ x.suits.half x.suits.rep (middle_is 6 n x.suits.middle) (no_number v x.number)))
+
+Idiv_has : (w : Bool) → HasForm (row.Idiv w)
+unfolding HasForm
+Idiv_has w h p n m v i x e = by_built _ h p n m v i _ e (inl (sized_form row.Idiv w h p _ _ _ _ _ x.suits.half x.suits.rep (middle_is 7 n x.suits.middle) (no_number v x.number)))
+
+Cld_has : HasForm row.Cld
+unfolding HasForm
+Cld_has h p n m v i x e = by_built _ h p n m v i _ e (inl (fixed_form _ h p _ _ _ _ _ x.suits.half x.suits.rep (x.known refl) (no_number v x.number)))
+
+Inc_has : (w : Bool) → HasForm (row.Inc w)
+unfolding HasForm
+Inc_has w h p n m v i x e = by_built _ h p n m v i _ e (inl (sized_form row.Inc w h p _ _ _ _ _ x.suits.half x.suits.rep (middle_is 0 n x.suits.middle) (no_number v x.number)))
+
+Dec_has : (w : Bool) → HasForm (row.Dec w)
+unfolding HasForm
+Dec_has w h p n m v i x e = by_built _ h p n m v i _ e (inl (sized_form row.Dec w h p _ _ _ _ _ x.suits.half x.suits.rep (middle_is 1 n x.suits.middle) (no_number v x.number)))
+
+CallTo_has : HasForm row.CallTo
+unfolding HasForm
+CallTo_has h p n m v i x e = by_built _ h p n m v i _ e (inl (fixed_form _ h p _ _ _ _ _ x.suits.half x.suits.rep (middle_is 2 n x.suits.middle) (no_number v x.number)))
+
+JmpTo_has : HasForm row.JmpTo
+unfolding HasForm
+JmpTo_has h p n m v i x e = by_built _ h p n m v i _ e (inl (fixed_form _ h p _ _ _ _ _ x.suits.half x.suits.rep (middle_is 4 n x.suits.middle) (no_number v x.number)))
+
+Push_has : HasForm row.Push
+unfolding HasForm
+Push_has h p n (rm.Reg q) v i x e = by_built _ h p n (rm.Reg q) v i _ e (inl (fixed_form _ h p _ _ _ _ _ x.suits.half x.suits.rep (middle_is 6 n x.suits.middle) (no_number v x.number)))
+Push_has h p n (rm.Mem a) v i x e = by_built _ h p n (rm.Mem a) v i _ e (inl (fixed_form _ h p _ _ _ _ _ x.suits.half x.suits.rep (middle_is 6 n x.suits.middle) (no_number v x.number)))
+
+NopEnd_has : HasForm row.NopEnd
+unfolding HasForm
+NopEnd_has h p n m v i x e =
+    let g = chosen (eqb v 0xFB) (Some instr.Nop) None (Some i) e in
+    elim g [
+      | inl t ↦ by_built _ h p n m v i _ t.1 (inr (inr (inl (same_form _ _ _ _ _ _ _ _ _ _ _ refl (no_half h x.suits.half) x.suits.rep (x.known refl) (eqb-true _ _ t.0)))))
+      | inr t ↦ absurd (none_some t.1)
+    ]
+
+NopLong_has : HasForm row.NopLong
+unfolding HasForm
+NopLong_has h p n m v i x e = by_built _ h p n m v i _ e (inr (inl (fixed_form _ h p _ _ _ _ _ x.suits.half x.suits.rep (middle_is 0 n x.suits.middle) (no_number v x.number))))
+
+Cmov_has : (c : Cond) → HasForm (row.Cmov c)
+unfolding HasForm
+Cmov_has c false p n m v i x e = by_built _ false p n m v i _ e (inl (same_form _ _ _ _ _ _ _ _ _ _ _ refl refl (no_rep p x.suits.rep) (sym (reg_again n x.middle)) (no_number v x.number)))
+Cmov_has c true p n m v i x e = by_built _ true p n m v i _ e (inl (same_form _ _ _ _ _ _ _ _ _ _ _ refl refl (no_rep p x.suits.rep) (sym (reg_again n x.middle)) (no_number v x.number)))
+
+JccNear_has : (c : Cond) → HasForm (row.JccNear c)
+unfolding HasForm
+JccNear_has c h p n m v i x e = by_built _ h p n m v i _ e (inl (fixed_form _ h p _ _ _ _ _ x.suits.half x.suits.rep (x.known refl) refl))
+
+Setcc_has : (c : Cond) → HasForm (row.Setcc c)
+unfolding HasForm
+Setcc_has c h p n m v i x e = by_built _ h p n m v i _ e (inl (fixed_form _ h p _ _ _ _ _ x.suits.half x.suits.rep (middle_is 0 n x.suits.middle) (no_number v x.number)))
+
+ShldImm_has : HasForm row.ShldImm
+unfolding HasForm
+ShldImm_has h p n m v i x e = by_built _ h p n m v i _ e (inl (fixed_form _ h p _ _ _ _ _ x.suits.half x.suits.rep (sym (reg_again n x.middle)) refl))
+
+ShldCl_has : HasForm row.ShldCl
+unfolding HasForm
+ShldCl_has h p n m v i x e = by_built _ h p n m v i _ e (inl (fixed_form _ h p _ _ _ _ _ x.suits.half x.suits.rep (sym (reg_again n x.middle)) (no_number v x.number)))
+
+ShrdImm_has : HasForm row.ShrdImm
+unfolding HasForm
+ShrdImm_has h p n m v i x e = by_built _ h p n m v i _ e (inl (fixed_form _ h p _ _ _ _ _ x.suits.half x.suits.rep (sym (reg_again n x.middle)) refl))
+
+ShrdCl_has : HasForm row.ShrdCl
+unfolding HasForm
+ShrdCl_has h p n m v i x e = by_built _ h p n m v i _ e (inl (fixed_form _ h p _ _ _ _ _ x.suits.half x.suits.rep (sym (reg_again n x.middle)) (no_number v x.number)))
+
+Imul_has : HasForm row.Imul
+unfolding HasForm
+Imul_has false p n m v i x e = by_built _ false p n m v i _ e (inl (same_form _ _ _ _ _ _ _ _ _ _ _ refl refl (no_rep p x.suits.rep) (sym (reg_again n x.middle)) (no_number v x.number)))
+Imul_has true p n m v i x e = by_built _ true p n m v i _ e (inl (same_form _ _ _ _ _ _ _ _ _ _ _ refl refl (no_rep p x.suits.rep) (sym (reg_again n x.middle)) (no_number v x.number)))
+
+MovzxByte_has : HasForm row.MovzxByte
+unfolding HasForm
+MovzxByte_has false p n m v i x e = by_built _ false p n m v i _ e (inl (same_form _ _ _ _ _ _ _ _ _ _ _ refl refl (no_rep p x.suits.rep) (sym (reg_again n x.middle)) (no_number v x.number)))
+MovzxByte_has true p n m v i x e = by_built _ true p n m v i _ e (inl (same_form _ _ _ _ _ _ _ _ _ _ _ refl refl (no_rep p x.suits.rep) (sym (reg_again n x.middle)) (no_number v x.number)))
+
+MovzxWord_has : HasForm row.MovzxWord
+unfolding HasForm
+MovzxWord_has h p n m v i x e = by_built _ h p n m v i _ e (inl (fixed_form _ h p _ _ _ _ _ x.suits.half x.suits.rep (sym (reg_again n x.middle)) (no_number v x.number)))
+
 Bsf_has : HasForm row.Bsf
 unfolding HasForm
 Bsf_has false p n m v i x e = by_built _ false p n m v i _ e (inl (same_form _ _ _ _ _ _ _ _ _ _ _ refl refl (no_rep p x.suits.rep) (sym (reg_again n x.middle)) (no_number v x.number)))
@@ -354,162 +425,91 @@ unfolding HasForm
 Bsr_has false p n m v i x e = by_built _ false p n m v i _ e (inl (same_form _ _ _ _ _ _ _ _ _ _ _ refl refl (no_rep p x.suits.rep) (sym (reg_again n x.middle)) (no_number v x.number)))
 Bsr_has true p n m v i x e = by_built _ true p n m v i _ e (inl (same_form _ _ _ _ _ _ _ _ _ _ _ refl refl (no_rep p x.suits.rep) (sym (reg_again n x.middle)) (no_number v x.number)))
 
+MovsxByte_has : HasForm row.MovsxByte
+unfolding HasForm
+MovsxByte_has false p n m v i x e = by_built _ false p n m v i _ e (inl (same_form _ _ _ _ _ _ _ _ _ _ _ refl refl (no_rep p x.suits.rep) (sym (reg_again n x.middle)) (no_number v x.number)))
+MovsxByte_has true p n m v i x e = by_built _ true p n m v i _ e (inl (same_form _ _ _ _ _ _ _ _ _ _ _ refl refl (no_rep p x.suits.rep) (sym (reg_again n x.middle)) (no_number v x.number)))
+
+MovsxWord_has : HasForm row.MovsxWord
+unfolding HasForm
+MovsxWord_has h p n m v i x e = by_built _ h p n m v i _ e (inl (fixed_form _ h p _ _ _ _ _ x.suits.half x.suits.rep (sym (reg_again n x.middle)) (no_number v x.number)))
+
 BswapReg_has : (r : Reg) → HasForm (row.BswapReg r)
 unfolding HasForm
 BswapReg_has r h p n m v i x e = by_built _ h p n m v i _ e (inl (fixed_form _ h p _ _ _ _ _ x.suits.half x.suits.rep (x.known refl) (no_number v x.number)))
 
-Movs_has : (f : Bool) → HasForm (row.Movs f)
-unfolding HasForm
-Movs_has f h p n m v i x e = by_built _ h p n m v i _ e (inl (same_form _ _ _ _ _ _ _ _ _ _ _ (ap row.Movs (full_back f h)) (half_back f h x.suits.half) refl (x.known refl) (no_number v x.number)))
-
-Stos_has : (f : Bool) → HasForm (row.Stos f)
-unfolding HasForm
-Stos_has f h p n m v i x e = by_built _ h p n m v i _ e (inl (same_form _ _ _ _ _ _ _ _ _ _ _ (ap row.Stos (full_back f h)) (half_back f h x.suits.half) refl (x.known refl) (no_number v x.number)))
-
-JmpShort_has : HasForm row.JmpShort
-unfolding HasForm
-JmpShort_has h p n m v i x e = by_built _ h p n m v i _ e (inr (In-signed Four v (λ b. plain row.JmpShort Four b) (form_of row.JmpShort h p n m v) x.number (fixed_form _ h p _ _ _ _ _ x.suits.half x.suits.rep (x.known refl) refl)))
-
-JmpNear_has : HasForm row.JmpNear
-unfolding HasForm
-JmpNear_has h p n m v i x e = by_built _ h p n m v i _ e (inl (fixed_form _ h p _ _ _ _ _ x.suits.half x.suits.rep (x.known refl) refl))
-
-JmpTo_has : HasForm row.JmpTo
-unfolding HasForm
-JmpTo_has h p n m v i x e = by_built _ h p n m v i _ e (inl (fixed_form _ h p _ _ _ _ _ x.suits.half x.suits.rep (middle_is 4 n x.suits.middle) (no_number v x.number)))
-
-CallTo_has : HasForm row.CallTo
-unfolding HasForm
-CallTo_has h p n m v i x e = by_built _ h p n m v i _ e (inl (fixed_form _ h p _ _ _ _ _ x.suits.half x.suits.rep (middle_is 2 n x.suits.middle) (no_number v x.number)))
-
-JccShort_has : (c : Cond) → HasForm (row.JccShort c)
-unfolding HasForm
-JccShort_has c h p n m v i x e = by_built _ h p n m v i _ e (inr (In-signed Four v (λ b. plain (row.JccShort c) Four b) (form_of (row.JccShort c) h p n m v) x.number (fixed_form _ h p _ _ _ _ _ x.suits.half x.suits.rep (x.known refl) refl)))
-
-JccNear_has : (c : Cond) → HasForm (row.JccNear c)
-unfolding HasForm
-JccNear_has c h p n m v i x e = by_built _ h p n m v i _ e (inl (fixed_form _ h p _ _ _ _ _ x.suits.half x.suits.rep (x.known refl) refl))
-
-CallNear_has : HasForm row.CallNear
-unfolding HasForm
-CallNear_has h p n m v i x e = by_built _ h p n m v i _ e (inl (fixed_form _ h p _ _ _ _ _ x.suits.half x.suits.rep (x.known refl) refl))
-
-Ret_has : HasForm row.Ret
-unfolding HasForm
-Ret_has h false n m v i x e = by_built _ h false n m v i _ e (inr (inl (same_form _ _ _ _ _ _ _ _ _ _ _ refl (no_half h x.suits.half) refl (x.known refl) (no_number v x.number))))
-Ret_has h true n m v i x e = by_built _ h true n m v i _ e (inr (inr (inl (same_form _ _ _ _ _ _ _ _ _ _ _ refl (no_half h x.suits.half) refl (x.known refl) (no_number v x.number)))))
-
-RetDrop_has : HasForm row.RetDrop
-unfolding HasForm
-RetDrop_has h p n m zero i x e = by_built _ h p n m zero i _ e (inl (fixed_form _ h p _ _ _ _ _ x.suits.half x.suits.rep (x.known refl) refl))
-RetDrop_has h p n m (suc v) i x e = by_built _ h p n m (suc v) i _ e (inl (fixed_form _ h p _ _ _ _ _ x.suits.half x.suits.rep (x.known refl) refl))
-
-Leave_has : HasForm row.Leave
-unfolding HasForm
-Leave_has h p n m v i x e = by_built _ h p n m v i _ e (inl (fixed_form _ h p _ _ _ _ _ x.suits.half x.suits.rep (x.known refl) (no_number v x.number)))
-
-Int80_has : HasForm row.Int80
-unfolding HasForm
-Int80_has h p n m v i x e =
-    let g = chosen (eqb v 128) (Some instr.Int80) None (Some i) e in
-    elim g [
-      | inl t ↦ by_built _ h p n m v i _ t.1 (inl (same_form _ _ _ _ _ _ _ _ _ _ _ refl (no_half h x.suits.half) (no_rep p x.suits.rep) (x.known refl) (eqb-true _ _ t.0)))
-      | inr t ↦ absurd (none_some t.1)
-    ]
-
-Cld_has : HasForm row.Cld
-unfolding HasForm
-Cld_has h p n m v i x e = by_built _ h p n m v i _ e (inl (fixed_form _ h p _ _ _ _ _ x.suits.half x.suits.rep (x.known refl) (no_number v x.number)))
-
-Nop_has : HasForm row.Nop
-unfolding HasForm
-Nop_has h p n m v i x e = by_built _ h p n m v i _ e (inl (fixed_form _ h p _ _ _ _ _ x.suits.half x.suits.rep (x.known refl) (no_number v x.number)))
-
-NopLong_has : HasForm row.NopLong
-unfolding HasForm
-NopLong_has h p n m v i x e = by_built _ h p n m v i _ e (inr (inl (fixed_form _ h p _ _ _ _ _ x.suits.half x.suits.rep (middle_is 0 n x.suits.middle) (no_number v x.number))))
-
-NopEnd_has : HasForm row.NopEnd
-unfolding HasForm
-NopEnd_has h p n m v i x e =
-    let g = chosen (eqb v 251) (Some instr.Nop) None (Some i) e in
-    elim g [
-      | inl t ↦ by_built _ h p n m v i _ t.1 (inr (inr (inl (same_form _ _ _ _ _ _ _ _ _ _ _ refl (no_half h x.suits.half) x.suits.rep (x.known refl) (eqb-true _ _ t.0)))))
-      | inr t ↦ absurd (none_some t.1)
-    ]
-
 pub has_form : (r : Row) → HasForm r
-has_form (row.AluToRm op f) = AluToRm_has op f
-has_form (row.AluToReg op f) = AluToReg_has op f
-has_form (row.AluAcc op f) = AluAcc_has op f
-has_form (row.AluImm f) = AluImm_has f
-has_form row.AluByte = AluByte_has
-has_form (row.TestRm f) = TestRm_has f
-has_form (row.TestAcc f) = TestAcc_has f
-has_form (row.TestImm f) = TestImm_has f
-has_form (row.MovToRm f) = MovToRm_has f
-has_form (row.MovToReg f) = MovToReg_has f
-has_form (row.MovReg r f) = MovReg_has r f
-has_form (row.MovImm f) = MovImm_has f
-has_form (row.MovLoad f) = MovLoad_has f
-has_form (row.MovStore f) = MovStore_has f
-has_form row.Lea = Lea_has
+has_form (row.AluToRm op w) = AluToRm_has op w
+has_form (row.AluToReg op w) = AluToReg_has op w
+has_form (row.AluAcc op w) = AluAcc_has op w
 has_form (row.IncReg r) = IncReg_has r
 has_form (row.DecReg r) = DecReg_has r
-has_form (row.Inc f) = Inc_has f
-has_form (row.Dec f) = Dec_has f
-has_form (row.Not f) = Not_has f
-has_form (row.Neg f) = Neg_has f
-has_form (row.Mul f) = Mul_has f
-has_form (row.ImulWide f) = ImulWide_has f
-has_form (row.Div f) = Div_has f
-has_form (row.Idiv f) = Idiv_has f
-has_form row.Imul = Imul_has
+has_form (row.PushReg r) = PushReg_has r
+has_form (row.PopReg r) = PopReg_has r
+has_form row.PushWord = PushWord_has
 has_form row.ImulWord = ImulWord_has
+has_form row.PushByte = PushByte_has
 has_form row.ImulByte = ImulByte_has
-has_form (row.ShiftImm op f) = ShiftImm_has op f
-has_form (row.ShiftOne op f) = ShiftOne_has op f
-has_form (row.ShiftCl op f) = ShiftCl_has op f
+has_form (row.JccShort c) = JccShort_has c
+has_form (row.AluImm w) = AluImm_has w
+has_form row.AluByte = AluByte_has
+has_form (row.TestRm w) = TestRm_has w
+has_form (row.Xchg w) = Xchg_has w
+has_form (row.MovToRm w) = MovToRm_has w
+has_form (row.MovToReg w) = MovToReg_has w
+has_form row.Lea = Lea_has
+has_form row.Pop = Pop_has
+has_form (row.XchgAcc r) = XchgAcc_has r
+has_form row.Nop = Nop_has
+has_form row.Extend = Extend_has
+has_form row.Spread = Spread_has
+has_form (row.MovLoad w) = MovLoad_has w
+has_form (row.MovStore w) = MovStore_has w
+has_form (row.Movs w) = Movs_has w
+has_form (row.TestAcc w) = TestAcc_has w
+has_form (row.Stos w) = Stos_has w
+has_form (row.MovReg r w) = MovReg_has r w
+has_form (row.ShiftImm op w) = ShiftImm_has op w
+has_form row.RetDrop = RetDrop_has
+has_form row.Ret = Ret_has
+has_form (row.MovImm w) = MovImm_has w
+has_form row.Leave = Leave_has
+has_form row.Int80 = Int80_has
+has_form (row.ShiftOne op w) = ShiftOne_has op w
+has_form (row.ShiftCl op w) = ShiftCl_has op w
+has_form row.CallNear = CallNear_has
+has_form row.JmpNear = JmpNear_has
+has_form row.JmpShort = JmpShort_has
+has_form (row.TestImm w) = TestImm_has w
+has_form (row.Not w) = Not_has w
+has_form (row.Neg w) = Neg_has w
+has_form (row.Mul w) = Mul_has w
+has_form (row.ImulWide w) = ImulWide_has w
+has_form (row.Div w) = Div_has w
+has_form (row.Idiv w) = Idiv_has w
+has_form row.Cld = Cld_has
+has_form (row.Inc w) = Inc_has w
+has_form (row.Dec w) = Dec_has w
+has_form row.CallTo = CallTo_has
+has_form row.JmpTo = JmpTo_has
+has_form row.Push = Push_has
+has_form row.NopEnd = NopEnd_has
+has_form row.NopLong = NopLong_has
+has_form (row.Cmov c) = Cmov_has c
+has_form (row.JccNear c) = JccNear_has c
+has_form (row.Setcc c) = Setcc_has c
 has_form row.ShldImm = ShldImm_has
 has_form row.ShldCl = ShldCl_has
 has_form row.ShrdImm = ShrdImm_has
 has_form row.ShrdCl = ShrdCl_has
-has_form (row.PushReg r) = PushReg_has r
-has_form row.PushWord = PushWord_has
-has_form row.PushByte = PushByte_has
-has_form row.Push = Push_has
-has_form (row.PopReg r) = PopReg_has r
-has_form row.Pop = Pop_has
-has_form (row.Xchg f) = Xchg_has f
-has_form (row.XchgAcc r) = XchgAcc_has r
+has_form row.Imul = Imul_has
 has_form row.MovzxByte = MovzxByte_has
 has_form row.MovzxWord = MovzxWord_has
-has_form row.MovsxByte = MovsxByte_has
-has_form row.MovsxWord = MovsxWord_has
-has_form (row.Cmov c) = Cmov_has c
-has_form (row.Setcc c) = Setcc_has c
-has_form row.Extend = Extend_has
-has_form row.Spread = Spread_has
 has_form row.Bsf = Bsf_has
 has_form row.Bsr = Bsr_has
+has_form row.MovsxByte = MovsxByte_has
+has_form row.MovsxWord = MovsxWord_has
 has_form (row.BswapReg r) = BswapReg_has r
-has_form (row.Movs f) = Movs_has f
-has_form (row.Stos f) = Stos_has f
-has_form row.JmpShort = JmpShort_has
-has_form row.JmpNear = JmpNear_has
-has_form row.JmpTo = JmpTo_has
-has_form row.CallTo = CallTo_has
-has_form (row.JccShort c) = JccShort_has c
-has_form (row.JccNear c) = JccNear_has c
-has_form row.CallNear = CallNear_has
-has_form row.Ret = Ret_has
-has_form row.RetDrop = RetDrop_has
-has_form row.Leave = Leave_has
-has_form row.Int80 = Int80_has
-has_form row.Cld = Cld_has
-has_form row.Nop = Nop_has
-has_form row.NopLong = NopLong_has
-has_form row.NopEnd = NopEnd_has
 
 -- ---- the end of the rows
 

@@ -26,13 +26,13 @@ le_bytes (suc k) v = (omega arith, le_bytes k (v / 256))
 
 prefix_byte : (b : ℕ) → is_prefix b ≡ true → b < 256
 prefix_byte b h =
-    elim (or_cases (eqb b 102 || eqb b 46 || eqb b 62) (eqb b 243) h) [
-      | inr e ↦ let q = eqb-true b 243 e in omega (arith, q)
-      | inl k ↦ elim (or_cases (eqb b 102 || eqb b 46) (eqb b 62) k) [
-        | inr e ↦ let q = eqb-true b 62 e in omega (arith, q)
-        | inl l ↦ elim (or_cases (eqb b 102) (eqb b 46) l) [
-          | inl e ↦ let q = eqb-true b 102 e in omega (arith, q)
-          | inr e ↦ let q = eqb-true b 46 e in omega (arith, q)
+    elim (or_cases (eqb b 0x66 || eqb b 0x2E || eqb b 0x3E) (eqb b 0xF3) h) [
+      | inr e ↦ let q = eqb-true b 0xF3 e in omega (arith, q)
+      | inl k ↦ elim (or_cases (eqb b 0x66 || eqb b 0x2E) (eqb b 0x3E) k) [
+        | inr e ↦ let q = eqb-true b 0x3E e in omega (arith, q)
+        | inl l ↦ elim (or_cases (eqb b 0x66) (eqb b 0x2E) l) [
+          | inl e ↦ let q = eqb-true b 0x66 e in omega (arith, q)
+          | inr e ↦ let q = eqb-true b 0x2E e in omega (arith, q)
         ]
       ]
     ]
@@ -41,21 +41,21 @@ prefix_bytes : (ps : List ℕ) → AllByRecursion (λ b. is_prefix b ≡ true) p
 prefix_bytes [] h = tt
 prefix_bytes (b ∷ ps) h = (prefix_byte b h.0, prefix_bytes ps h.1)
 
-pub past : (key : ℕ) → 512 ≤ key → entry_of key ≡ entry.Nothing
+pub past : (key : ℕ) → 0x200 ≤ key → entry_of key ≡ entry.Nothing
 unfolding entry_of
 past key h =
     let out : length ENTRIES ≤ key / 8 = omega arith in
     rw (get_or_past ENTRIES (key / 8) [] out) refl
 
-pub key_small : (r : Row) (n : ℕ) → row_at (key_of r) n ≡ Some r → key_of r < 512
+pub key_small : (r : Row) (n : ℕ) → row_at (key_of r) n ≡ Some r → key_of r < 0x200
 key_small r n h =
-    elim (cases_lt (key_of r) 512) [
+    elim (cases_lt (key_of r) 0x200) [
       | inl lt ↦ lt
       | inr ge ↦ absurd (nothing_there _ n r h (past (key_of r) ge))
     ]
 
-key_bytes : (k : ℕ) → k < 512 → AreBytes (opcode_bytes k)
-key_bytes k h = cond_both (ltb k 256) (k ∷ []) (15 ∷ (k - 256) ∷ []) AreBytes (λ e. (ltb-true _ _ e, tt)) (λ e. let g = ltb-false _ _ e in (lit< tt, (omega arith, tt)))
+key_bytes : (k : ℕ) → k < 0x200 → AreBytes (opcode_bytes k)
+key_bytes k h = cond_both (ltb k 0x100) (k ∷ []) (0x0F ∷ (k - 0x100) ∷ []) AreBytes (λ e. (ltb-true _ _ e, tt)) (λ e. let g = ltb-false _ _ e in (lit< tt, (omega arith, tt)))
 
 sib_bytes : (b : Bool) (s : ℕ) → s < 256 → AreBytes (sibs b s)
 sib_bytes true s h = (h, tt)
@@ -66,7 +66,7 @@ operand_are false o h = tt
 operand_are true o h = let i = h refl in (i.m, bytes_append (sibs (has_sib o.m) o.sib) (le (disp_size o.m o.sib) o.disp) (sib_bytes (has_sib o.m) o.sib i.sib) (le_bytes (disp_size o.m o.sib) o.disp))
 
 pub opcode_some : (k : ℕ) → 1 ≤ length (opcode_bytes k)
-opcode_some k = cond_both (ltb k 256) (k ∷ []) (15 ∷ (k - 256) ∷ []) (λ x. 1 ≤ length x) (λ e. lit≤ tt) (λ e. lit≤ tt)
+opcode_some k = cond_both (ltb k 0x100) (k ∷ []) (0x0F ∷ (k - 0x100) ∷ []) (λ x. 1 ≤ length x) (λ e. lit≤ tt) (λ e. lit≤ tt)
 
 module _ (i : Instr) (x : Spelling) (ok : IsSpelling x i) where
   abbrev f : Form

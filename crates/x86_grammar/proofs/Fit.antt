@@ -27,7 +27,7 @@ use Rattle.x86_grammar.specs.Forms.{forms, In}
 use Rattle.x86_grammar.specs.Parts.{full_of, half_of, signed}
 use Rattle.x86_grammar.specs.Operand.{Operand, rm_of, le, sibs, has_sib, disp_size, mod_size, low_of}
 use Rattle.x86_grammar.specs.Spells.{is_prefix, counts_of, prefixes_fit, half_in, opcode_bytes, operand_part, bytes_of, Spelling, IsSpelling}
-use Rattle.x86_grammar.specs.Fields.{number_fits, rm_fits, is_wide, widens, fields_fit, HasSpelling}
+use Rattle.x86_grammar.specs.Fields.{number_fits, rm_fits, widens, fields_fit, HasSpelling}
 use Rattle.x86_grammar.proofs.Map.{and_left, and_right}
 use Rattle.x86_grammar.proofs.Means.{Means, mean_of, forms_mean, rm_or, is_none}
 use Rattle.x86_grammar.proofs.LittleEndian.{length-le}
@@ -39,11 +39,11 @@ num : (w : Width) (v : ℕ) → v < 256 ^ size_of w → number_fits w v ≡ true
 num w v h = lt-ltb _ _ h
 
 num_signed : (w : Width) (v : ℕ) → v < 256 → number_fits w (signed w v) ≡ true
-num_signed One v h = cond_both (ltb v 128) v (v + (256 ^ 1 - 256)) (λ x. number_fits One x ≡ true) (λ e. lt-ltb _ _ (omega arith)) (λ e. lt-ltb _ _ (omega arith))
-num_signed Two v h = cond_both (ltb v 128) v (v + (256 ^ 2 - 256)) (λ x. number_fits Two x ≡ true) (λ e. lt-ltb _ _ (omega arith)) (λ e. lt-ltb _ _ (omega arith))
-num_signed Four v h = cond_both (ltb v 128) v (v + (256 ^ 4 - 256)) (λ x. number_fits Four x ≡ true) (λ e. lt-ltb _ _ (omega arith)) (λ e. lt-ltb _ _ (omega arith))
+num_signed One v h = cond_both (ltb v 0x80) v (v + (256 ^ 1 - 256)) (λ x. number_fits One x ≡ true) (λ e. lt-ltb _ _ (omega arith)) (λ e. lt-ltb _ _ (omega arith))
+num_signed Two v h = cond_both (ltb v 0x80) v (v + (256 ^ 2 - 256)) (λ x. number_fits Two x ≡ true) (λ e. lt-ltb _ _ (omega arith)) (λ e. lt-ltb _ _ (omega arith))
+num_signed Four v h = cond_both (ltb v 0x80) v (v + (256 ^ 4 - 256)) (λ x. number_fits Four x ≡ true) (λ e. lt-ltb _ _ (omega arith)) (λ e. lt-ltb _ _ (omega arith))
 
-wide_is : (h : Bool) → is_wide (width_of true h) ≡ true
+wide_is : (h : Bool) → full_of (width_of true h) ≡ true
 wide_is true = refl
 wide_is false = refl
 
@@ -126,11 +126,11 @@ row_fits row.CallNear h p n m v a b = num Four v b
 row_fits row.Ret h p n m v a b = refl
 row_fits row.RetDrop h p n m v a b = num Two v b
 row_fits row.Leave h p n m v a b = refl
-row_fits row.Int80 h p n m v a b = if_some (eqb v 128) _ refl
+row_fits row.Int80 h p n m v a b = if_some (eqb v 0x80) _ refl
 row_fits row.Cld h p n m v a b = refl
 row_fits row.Nop h p n m v a b = refl
 row_fits row.NopLong h p n m v a b = refl
-row_fits row.NopEnd h p n m v a b = if_some (eqb v 251) _ refl
+row_fits row.NopEnd h p n m v a b = if_some (eqb v 0xFB) _ refl
 
 if_some_is : (o : Option Instr) (i : Instr) → o ≡ Some i → IfSome o (λ j. fields_fit j ≡ true) → fields_fit i ≡ true
 if_some_is None i e h = absurd cc
@@ -279,9 +279,9 @@ some_form instr.Nop e = has _ (inl refl) (lit< tt) (lit< tt) tt
 -- ---- such a form has a spelling
 
 abbrev marks : Bool → Bool → List ℕ
-marks true true = 102 ∷ 243 ∷ []
-marks true false = 102 ∷ []
-marks false true = 243 ∷ []
+marks true true = 0x66 ∷ 0xF3 ∷ []
+marks true false = 0x66 ∷ []
+marks false true = 0xF3 ∷ []
 marks false false = []
 
 marks_short : (h p : Bool) → length (marks h p) ≤ 2
@@ -330,7 +330,7 @@ imm_small row.ImulWord h = size_small (width_of true h)
 imm_small _ h = lit≤ tt
 
 opcode_short : (k : ℕ) → length (opcode_bytes k) ≤ 2
-opcode_short k = cond_both (ltb k 256) (k ∷ []) (15 ∷ (k - 256) ∷ []) (λ x. length x ≤ 2) (λ e. lit≤ tt) (λ e. lit≤ tt)
+opcode_short k = cond_both (ltb k 0x100) (k ∷ []) (0x0F ∷ (k - 0x100) ∷ []) (λ x. length x ≤ 2) (λ e. lit≤ tt) (λ e. lit≤ tt)
 
 mod_short : (k : ℕ) (five : Bool) → mod_size k five ≤ 4
 mod_short zero true = lit≤ tt

@@ -22,7 +22,7 @@ use Rattle.x86_grammar.specs.declared.row.Form.{Form}
 use Rattle.x86_grammar.specs.declared.row.Row.{Row}
 use Rattle.x86_grammar.specs.declared.row.Row.TheVariants as row
 use Rattle.x86_grammar.specs.Attributes.{imm_size}
-use Rattle.x86_grammar.specs.Fields.{number_fits, index_fits, address_fits, rm_fits, count_fits, is_wide, widens, moves_fit, test_fits, push_fits, fields_fit}
+use Rattle.x86_grammar.specs.Fields.{number_fits, index_fits, address_fits, rm_fits, count_fits, widens, moves_fit, test_fits, push_fits, fields_fit}
 use Rattle.x86_grammar.specs.FormLaws.{FormSuits, FormFits}
 use Rattle.x86_grammar.specs.Forms.{In, forms, alu_forms, test_forms, number_only, if_number, mov_load, mov_store, mov_forms, short_step, to_reg, imul_by_forms, shift_forms, push_forms, other_reg, xchg_short, widen_forms, ret_forms}
 use Rattle.x86_grammar.specs.Meaning.{build}
@@ -123,7 +123,7 @@ mov_all w to (src.Imm v) e =
 step_all : (r : Reg → Row) (w : Width) (to : Rm) → ((t : Reg) → 0 < 256 ^ imm_size (r t) (half_of w)) → AllFit (short_step r w to)
 step_all r w to h = All_wide w _ (All_reg to _ (λ t. (fit (lit< tt) (h t) tt, tt)))
 
-by_all : (w : Width) (to : Reg) (from : Rm) (v : ℕ) → (is_wide w && (rm_fits from && number_fits w v)) ≡ true → AllFit (imul_by_forms w to from v)
+by_all : (w : Width) (to : Reg) (from : Rm) (v : ℕ) → (full_of w && (rm_fits from && number_fits w v)) ≡ true → AllFit (imul_by_forms w to from v)
 by_all One to from v e = tt
 by_all Two to from v e =
     let o = and_left (rm_fits from) (number_fits Two v) e in
@@ -132,8 +132,8 @@ by_all Four to from v e =
     let o = and_left (rm_fits from) (number_fits Four v) e in
     (fit (reg_low to) (ltb-true _ _ (and_right (rm_fits from) (number_fits Four v) e)) o, All_signed Four v (λ b. with_rm row.ImulByte Four (number_of_reg to) from b) (fit (reg_low to) (byte_low v) o))
 
-to_reg_all : (r : Row) (w : Width) (to : Reg) (from : Rm) → 0 < 256 ^ imm_size r (half_of w) → (is_wide w && rm_fits from) ≡ true → AllFit (to_reg r w to from)
-to_reg_all r w to from h e = All_wide w _ (fit (reg_low to) h (and_right (is_wide w) (rm_fits from) e), tt)
+to_reg_all : (r : Row) (w : Width) (to : Reg) (from : Rm) → 0 < 256 ^ imm_size r (half_of w) → (full_of w && rm_fits from) ≡ true → AllFit (to_reg r w to from)
+to_reg_all r w to from h e = All_wide w _ (fit (reg_low to) h (and_right (full_of w) (rm_fits from) e), tt)
 
 shift_all : (op : ShiftOp) (w : Width) (to : Rm) (n : Count) → (rm_fits to && count_fits n) ≡ true → AllFit (shift_forms op w to n)
 shift_all op w to (count.Imm v) e =
@@ -172,7 +172,7 @@ forms_all : (i : Instr) → fields_fit i ≡ true → AllFit (forms i)
 forms_all (instr.Alu op w to from) e = alu_all op w to from e
 forms_all (instr.Test w left right) e = test_all w left right e
 forms_all (instr.Mov w to from) e = mov_all w to from e
-forms_all (instr.Lea w to a) e = All_wide w _ (fit (reg_low to) (lit< tt) (and_right (is_wide w) (address_fits a) e), tt)
+forms_all (instr.Lea w to a) e = All_wide w _ (fit (reg_low to) (lit< tt) (and_right (full_of w) (address_fits a) e), tt)
 forms_all (instr.Inc w to) e = (fit (lit< tt) (lit< tt) e, step_all row.IncReg w to (λ t. lit< tt))
 forms_all (instr.Dec w to) e = (fit (lit< tt) (lit< tt) e, step_all row.DecReg w to (λ t. lit< tt))
 forms_all (instr.Not w to) e = (fit (lit< tt) (lit< tt) e, tt)

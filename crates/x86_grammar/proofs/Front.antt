@@ -10,9 +10,9 @@ use Rattle.x86_grammar.specs.declared.row.Row.{Row}
 use Rattle.x86_grammar.specs.declared.row.Row.TheVariants as row
 use Rattle.x86_grammar.specs.declared.row.Counts.{Counts}
 use Rattle.x86_grammar.specs.Table.{entry_of, row_at}
-use Rattle.x86_grammar.specs.Rows.{key_of, has_operand}
+use Rattle.x86_grammar.specs.Rows.{bit, key_of, has_operand}
 use Rattle.x86_grammar.specs.Attributes.{can_half, any_halves, any_segments, can_hint, rep_fits, imm_size, wide_size}
-use Rattle.x86_grammar.specs.Spells.{prefixes_fit, half_in, opcode_bytes, is_prefix, more, counted, one_if}
+use Rattle.x86_grammar.specs.Spells.{prefixes_fit, half_in, opcode_bytes, is_prefix, more, counted}
 use Rattle.x86_grammar.specs.Reading.{Cut, least_of, least_opcode, least_escaped, least_escaped_of, needs, after_opcode, after_escape, at_opcode, read_from}
 use Rattle.x86_grammar.proofs.Bytes.{opcode_some}
 use Rattle.x86_grammar.proofs.Map.{or_cases, no_prefix, no_escape}
@@ -120,7 +120,7 @@ module _ (n : ℕ) (half any_h any_s hint : Bool) (reps : Bool → Bool) (a : At
   least_ok h s (suc (suc x)) p f = absurd (two_hints x hint f.hints)
 
 abbrev least_length : Row → ℕ
-least_length r = length (opcode_bytes (key_of r)) + one_if (has_operand r)
+least_length r = length (opcode_bytes (key_of r)) + bit (has_operand r)
 
 least_some : (r : Row) → 1 ≤ least_length r
 least_some r = omega (arith, opcode_some (key_of r))
@@ -178,22 +178,22 @@ wide_some false h = refl
 wide_some true true = refl
 wide_some true false = refl
 
-low_key : (k : ℕ) → k < 256 → ltb k 256 ≡ false → ⊥
-low_key k lt e = omega (arith, ltb-false k 256 e)
+low_key : (k : ℕ) → k < 256 → ltb k 0x100 ≡ false → ⊥
+low_key k lt e = omega (arith, ltb-false k 0x100 e)
 
-low_reg : (k : ℕ) (r : Reg) → k ≤ 248 → ltb (k + number_of_reg r) 256 ≡ false → ⊥
+low_reg : (k : ℕ) (r : Reg) → k ≤ 0xF8 → ltb (k + number_of_reg r) 0x100 ≡ false → ⊥
 low_reg k r le e = low_key (k + number_of_reg r) (omega (arith, reg_low r)) e
 
 -- a row behind 0F that knows a prefix has an operand or a number
-long_row : (r : Row) (h : Bool) → ltb (key_of r) 256 ≡ false → can_half r || any_halves r || any_segments r || rep_fits r true ≡ true → has_operand r || ltb 0 (imm_size r h) ≡ true
+long_row : (r : Row) (h : Bool) → ltb (key_of r) 0x100 ≡ false → can_half r || any_halves r || any_segments r || rep_fits r true ≡ true → has_operand r || ltb 0 (imm_size r h) ≡ true
 long_row (row.AluAcc op full) h e k = wide_some full h
 long_row (row.TestAcc full) h e k = wide_some full h
 long_row (row.MovReg r full) h e k = wide_some full h
-long_row (row.IncReg r) h e k = absurd (low_reg 64 r (lit≤ tt) e)
-long_row (row.DecReg r) h e k = absurd (low_reg 72 r (lit≤ tt) e)
+long_row (row.IncReg r) h e k = absurd (low_reg 0x40 r (lit≤ tt) e)
+long_row (row.DecReg r) h e k = absurd (low_reg 0x48 r (lit≤ tt) e)
 long_row (row.PushReg r) h e k = absurd (false≢true k)
 long_row (row.PopReg r) h e k = absurd (false≢true k)
-long_row (row.XchgAcc r) h e k = absurd (low_reg 144 r (lit≤ tt) e)
+long_row (row.XchgAcc r) h e k = absurd (low_reg 0x90 r (lit≤ tt) e)
 long_row (row.BswapReg r) h e k = absurd (false≢true k)
 long_row row.Extend h e k = absurd (false≢true (sym e))
 long_row row.Spread h e k = absurd (false≢true (sym e))
@@ -207,7 +207,7 @@ long_row row.Cld h e k = absurd (false≢true k)
 long_row row.Nop h e k = absurd (false≢true (sym e))
 long_row _ h e k = refl
 
-alone_row : (r : Row) → ltb (key_of r) 256 ≡ false → rep_fits r true ≡ true → (can_half r ≡ false) × (any_halves r ≡ false) × (any_segments r ≡ false)
+alone_row : (r : Row) → ltb (key_of r) 0x100 ≡ false → rep_fits r true ≡ true → (can_half r ≡ false) × (any_halves r ≡ false) × (any_segments r ≡ false)
 alone_row row.Ret e f = (refl, refl, refl)
 alone_row (row.Movs false) e f = absurd (false≢true (sym e))
 alone_row (row.Movs true) e f = absurd (false≢true (sym e))
@@ -216,16 +216,16 @@ alone_row (row.Stos true) e f = absurd (false≢true (sym e))
 alone_row row.NopEnd e f = (refl, refl, refl)
 alone_row _ e f = absurd (false≢true f)
 
-hint_row : (r : Row) → ltb (key_of r) 256 ≡ false → can_hint r ≡ false
+hint_row : (r : Row) → ltb (key_of r) 0x100 ≡ false → can_hint r ≡ false
 hint_row row.JmpTo e = absurd (false≢true (sym e))
 hint_row row.CallTo e = absurd (false≢true (sym e))
 hint_row _ e = refl
 
-some_more : (a : Bool) (k : ℕ) → a || ltb 0 k ≡ true → 1 ≤ one_if a + k
+some_more : (a : Bool) (k : ℕ) → a || ltb 0 k ≡ true → 1 ≤ bit a + k
 some_more true k e = omega arith
 some_more false k e = let lt = ltb-true 0 k e in omega arith
 
-escaped_at : (r : Row) (h : Bool) → ltb (key_of r) 256 ≡ false → Escaped (can_half r) (any_halves r) (any_segments r) (can_hint r) (rep_fits r true) (one_if (has_operand r) + imm_size r h)
+escaped_at : (r : Row) (h : Bool) → ltb (key_of r) 0x100 ≡ false → Escaped (can_half r) (any_halves r) (any_segments r) (can_hint r) (rep_fits r true) (bit (has_operand r) + imm_size r h)
 escaped_at r h e = record { no_hint = hint_row r e; alone = alone_row r e; long = λ k. some_more (has_operand r) (imm_size r h) (long_row r h e k) }
 
 -- ---- one more prefix wants no fewer bytes in all
@@ -291,46 +291,46 @@ fewer_repeats (suc (suc h)) (suc s) (suc x) p n w = nothing_within n w
 fewer : (c : Counts) (b n : ℕ) → is_prefix b ≡ true → Within (least_opcode (more c b)) n → Within (least_opcode c) (suc n)
 fewer c b n h w =
     let P : ℕ → Type 0 = λ b. Within (least_opcode (more c b)) n in
-    elim (or_cases (eqb b 102 || eqb b 46 || eqb b 62) (eqb b 243) h) [
-      | inr e ↦ fewer_repeats _ _ _ _ n (same_least _ _ _ _ _ _ _ _ n (sym (add-zero c.halves)) (sym (add-zero c.segments)) (sym (add-zero c.hints)) (sym (add-one c.repeats)) (subst P (eqb-true b 243 e) w))
-      | inl k ↦ elim (or_cases (eqb b 102 || eqb b 46) (eqb b 62) k) [
-        | inr e ↦ fewer_hints _ _ _ _ n (same_least _ _ _ _ _ _ _ _ n (sym (add-zero c.halves)) (sym (add-zero c.segments)) (sym (add-one c.hints)) (sym (add-zero c.repeats)) (subst P (eqb-true b 62 e) w))
-        | inl l ↦ elim (or_cases (eqb b 102) (eqb b 46) l) [
-          | inl e ↦ fewer_halves _ _ _ _ n (same_least _ _ _ _ _ _ _ _ n (sym (add-one c.halves)) (sym (add-zero c.segments)) (sym (add-zero c.hints)) (sym (add-zero c.repeats)) (subst P (eqb-true b 102 e) w))
-          | inr e ↦ fewer_segments _ _ _ _ n (same_least _ _ _ _ _ _ _ _ n (sym (add-zero c.halves)) (sym (add-one c.segments)) (sym (add-zero c.hints)) (sym (add-zero c.repeats)) (subst P (eqb-true b 46 e) w))
+    elim (or_cases (eqb b 0x66 || eqb b 0x2E || eqb b 0x3E) (eqb b 0xF3) h) [
+      | inr e ↦ fewer_repeats _ _ _ _ n (same_least _ _ _ _ _ _ _ _ n (sym (add-zero c.halves)) (sym (add-zero c.segments)) (sym (add-zero c.hints)) (sym (add-one c.repeats)) (subst P (eqb-true b 0xF3 e) w))
+      | inl k ↦ elim (or_cases (eqb b 0x66 || eqb b 0x2E) (eqb b 0x3E) k) [
+        | inr e ↦ fewer_hints _ _ _ _ n (same_least _ _ _ _ _ _ _ _ n (sym (add-zero c.halves)) (sym (add-zero c.segments)) (sym (add-one c.hints)) (sym (add-zero c.repeats)) (subst P (eqb-true b 0x3E e) w))
+        | inl l ↦ elim (or_cases (eqb b 0x66) (eqb b 0x2E) l) [
+          | inl e ↦ fewer_halves _ _ _ _ n (same_least _ _ _ _ _ _ _ _ n (sym (add-one c.halves)) (sym (add-zero c.segments)) (sym (add-zero c.hints)) (sym (add-zero c.repeats)) (subst P (eqb-true b 0x66 e) w))
+          | inr e ↦ fewer_segments _ _ _ _ n (same_least _ _ _ _ _ _ _ _ n (sym (add-zero c.halves)) (sym (add-one c.segments)) (sym (add-zero c.hints)) (sym (add-zero c.repeats)) (subst P (eqb-true b 0x2E e) w))
         ]
       ]
     ]
 
 -- ---- the opcode
 
-module _ (r : Row) (c : Counts) (t : List ℕ) (i : Instr) (p : prefixes_fit r c ≡ true) (long : one_if (has_operand r) + imm_size r (half_in r c) ≤ length t) (n : ℕ) (there : row_at (key_of r) n ≡ Some r) (s : Sees (after_opcode (entry_of (key_of r)) c) t i) where
+module _ (r : Row) (c : Counts) (t : List ℕ) (i : Instr) (p : prefixes_fit r c ≡ true) (long : bit (has_operand r) + imm_size r (half_in r c) ≤ length t) (n : ℕ) (there : row_at (key_of r) n ≡ Some r) (s : Sees (after_opcode (entry_of (key_of r)) c) t i) where
   first_within : Within (least_opcode c) (length (opcode_bytes (key_of r) ++ t))
   first_within =
       let w = least_ok (least_length r) _ _ _ _ (rep_fits r) (attributes_at r (least_some r)) _ _ _ _ (fit_of r c p) in
       record { value = w.value; is = w.is; least = omega (arith, w.least, long, length-append (opcode_bytes (key_of r)) t) }
 
-  escaped_within : ltb (key_of r) 256 ≡ false → Within (least_escaped c) (suc (length t))
+  escaped_within : ltb (key_of r) 0x100 ≡ false → Within (least_escaped c) (suc (length t))
   escaped_within e =
-      let w = escaped_ok (one_if (has_operand r) + imm_size r (half_in r c)) _ _ _ _ (rep_fits r) (escaped_at r (half_in r c) e) _ _ _ _ (fit_of r c p) in
+      let w = escaped_ok (bit (has_operand r) + imm_size r (half_in r c)) _ _ _ _ (rep_fits r) (escaped_at r (half_in r c) e) _ _ _ _ (fit_of r c p) in
       record { value = w.value; is = w.is; least = omega (arith, w.least, long) }
 
   one_byte : Within (least_opcode c) (suc (length t)) → Sees (read_from c) (key_of r ∷ t) i
   unfolding read_from at_opcode
   one_byte w = Sees-cons (read_from c) (after_opcode (entry_of (key_of r)) c) (key_of r) t i (λ bytes. rw (no_prefix r n there, no_escape r n there) refl) (needs_within _ _ w) s
 
-  two_bytes : (k : ℕ) → 256 + k ≡ key_of r → ltb (key_of r) 256 ≡ false → Within (least_opcode c) (suc (suc (length t))) → Sees (read_from c) (15 ∷ k ∷ t) i
+  two_bytes : (k : ℕ) → 0x100 + k ≡ key_of r → ltb (key_of r) 0x100 ≡ false → Within (least_opcode c) (suc (suc (length t))) → Sees (read_from c) (0x0F ∷ k ∷ t) i
   unfolding read_from at_opcode after_escape
   two_bytes k e b w =
       let inner : Sees (after_escape c) (k ∷ t) i = Sees-cons (after_escape c) (after_opcode (entry_of (key_of r)) c) k t i (λ bytes. ap (λ (x : ℕ). after_opcode (entry_of x) c bytes) e) (needs_within _ _ (escaped_within b)) s in
       Sees-cons (read_from c) (after_escape c) 15 (k ∷ t) i (λ bytes. refl) (needs_within _ _ w) inner
 
-  front_cases : (b : Bool) → ltb (key_of r) 256 ≡ b → Within (least_opcode c) (length (cond b (key_of r ∷ []) (15 ∷ (key_of r - 256) ∷ []) ++ t)) → Sees (read_from c) (cond b (key_of r ∷ []) (15 ∷ (key_of r - 256) ∷ []) ++ t) i
+  front_cases : (b : Bool) → ltb (key_of r) 0x100 ≡ b → Within (least_opcode c) (length (cond b (key_of r ∷ []) (0x0F ∷ (key_of r - 0x100) ∷ []) ++ t)) → Sees (read_from c) (cond b (key_of r ∷ []) (0x0F ∷ (key_of r - 0x100) ∷ []) ++ t) i
   front_cases true e w = one_byte w
-  front_cases false e w = two_bytes (key_of r - 256) (omega (arith, ltb-false _ _ e)) e w
+  front_cases false e w = two_bytes (key_of r - 0x100) (omega (arith, ltb-false _ _ e)) e w
 
   pub front_sees : Sees (read_from c) (opcode_bytes (key_of r) ++ t) i
-  front_sees = front_cases (ltb (key_of r) 256) refl first_within
+  front_sees = front_cases (ltb (key_of r) 0x100) refl first_within
 
 -- ---- the prefixes
 

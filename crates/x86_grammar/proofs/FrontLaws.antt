@@ -142,9 +142,9 @@ numbers_cut : (r : Row) (c : Counts) (m s size : ℕ) (bytes : List ℕ) → len
 unfolding numbers
 numbers_cut r c m s size bytes h = rw (below (length bytes) (size + imm_size r (half_in r c)) h) refl
 
-mov_reads : (r : Reg) (a b c d : ℕ) (rest : List ℕ) → read ((0xB8 + number_of_reg r) ∷ a ∷ b ∷ c ∷ d ∷ rest) ≡ numbers (row.MovReg r true) no_counts 192 0 0 (a ∷ b ∷ c ∷ d ∷ rest)
+mov_reads : (r : Reg) (a b c d : ℕ) (rest : List ℕ) → read ((0xB8 + number_of_reg r) ∷ a ∷ b ∷ c ∷ d ∷ rest) ≡ numbers (row.MovReg r true) no_counts 0xC0 0 0 (a ∷ b ∷ c ∷ d ∷ rest)
 unfolding entry_of plain_at after_opcode at_opcode read_from
-mov_reads r a b c d rest = elim r as (λ r. read ((0xB8 + number_of_reg r) ∷ a ∷ b ∷ c ∷ d ∷ rest) ≡ numbers (row.MovReg r true) no_counts 192 0 0 (a ∷ b ∷ c ∷ d ∷ rest)) [ reg.Eax ↦ refl | _ ↦ refl ]
+mov_reads r a b c d rest = elim r as (λ r. read ((0xB8 + number_of_reg r) ∷ a ∷ b ∷ c ∷ d ∷ rest) ≡ numbers (row.MovReg r true) no_counts 0xC0 0 0 (a ∷ b ∷ c ∷ d ∷ rest)) [ reg.Eax ↦ refl | _ ↦ refl ]
 
 front_at : (n k : ℕ) (x : Seen) (i : Instr) (left : ℕ) → x ≡ Found i left → n - left ≡ k → found_front n x ≡ Some (i, k)
 front_at n k x i left e h = rw (e, h) refl
@@ -153,7 +153,7 @@ mov_front : (r : Reg) (a b c d : ℕ) (rest : List ℕ) → front ((0xB8 + numbe
 unfolding front
 mov_front r a b c d rest =
     let bytes : List ℕ = a ∷ b ∷ c ∷ d ∷ take 10 rest in
-    front_at (suc (length bytes)) 5 _ (instr.Mov Four (rm.Reg r) (src.Imm (from_le 4 (a ∷ b ∷ c ∷ d ∷ [])))) (length bytes - 4) (mov_reads r a b c d (take 10 rest) ∙ numbers_there (row.MovReg r true) no_counts 192 0 0 bytes (omega arith)) (omega arith)
+    front_at (suc (length bytes)) 5 _ (instr.Mov Four (rm.Reg r) (src.Imm (from_le 4 (a ∷ b ∷ c ∷ d ∷ [])))) (length bytes - 4) (mov_reads r a b c d (take 10 rest) ∙ numbers_there (row.MovReg r true) no_counts 0xC0 0 0 bytes (omega arith)) (omega arith)
 
 -- fewer than four bytes
 few_cases : (P : List ℕ → Type 0) → P [] → ((a : ℕ) → P (a ∷ [])) → ((a b : ℕ) → P (a ∷ b ∷ [])) → ((a b c : ℕ) → P (a ∷ b ∷ c ∷ [])) → (rest : List ℕ) → length rest < 4 → P rest
@@ -179,7 +179,7 @@ jmp_front : (a b c d : ℕ) (rest : List ℕ) → front (0xE9 ∷ a ∷ b ∷ c 
 unfolding front entry_of plain_at after_opcode at_opcode read_from
 jmp_front a b c d rest =
     let bytes : List ℕ = a ∷ b ∷ c ∷ d ∷ take 10 rest in
-    front_at (suc (length bytes)) 5 _ (instr.Jmp (from_le 4 (a ∷ b ∷ c ∷ d ∷ []))) (length bytes - 4) (numbers_there row.JmpNear no_counts 192 0 0 bytes (omega arith)) (omega arith)
+    front_at (suc (length bytes)) 5 _ (instr.Jmp (from_le 4 (a ∷ b ∷ c ∷ d ∷ []))) (length bytes - 4) (numbers_there row.JmpNear no_counts 0xC0 0 0 bytes (omega arith)) (omega arith)
 
 jmp_cut : (rest : List ℕ) → length rest < 4 → front (0xE9 ∷ rest) ≡ None
 unfolding front entry_of numbers plain_at after_opcode at_opcode read_from
@@ -190,13 +190,13 @@ unfolding front entry_of plain_at after_opcode at_opcode read_from
 short_front b rest =
     let bytes : List ℕ = b ∷ take 13 rest in
     let v : b + 256 * 0 ≡ b = omega arith in
-    front_at (suc (length bytes)) 2 _ (instr.Jmp (signed Four b)) (length bytes - 1) (numbers_there row.JmpShort no_counts 192 0 0 bytes (omega arith) ∙ ap (λ (x : ℕ). Found (instr.Jmp (signed Four x)) (length bytes - 1)) v) (omega arith)
+    front_at (suc (length bytes)) 2 _ (instr.Jmp (signed Four b)) (length bytes - 1) (numbers_there row.JmpShort no_counts 0xC0 0 0 bytes (omega arith) ∙ ap (λ (x : ℕ). Found (instr.Jmp (signed Four x)) (length bytes - 1)) v) (omega arith)
 
 int_front : (rest : List ℕ) → front (0xCD ∷ 0x80 ∷ rest) ≡ Some (instr.Int80, 2)
 unfolding front entry_of plain_at after_opcode at_opcode read_from
 int_front rest =
     let bytes : List ℕ = 0x80 ∷ take 13 rest in
-    front_at (suc (length bytes)) 2 _ instr.Int80 (length bytes - 1) (numbers_there row.Int80 no_counts 192 0 0 bytes (omega arith)) (omega arith)
+    front_at (suc (length bytes)) 2 _ instr.Int80 (length bytes - 1) (numbers_there row.Int80 no_counts 0xC0 0 0 bytes (omega arith)) (omega arith)
 
 other_int : (n : ℕ) → n ≢ 0x80 → eqb (n + 0) 0x80 ≡ false
 other_int n h = grind (arith, nat_tests)
@@ -205,7 +205,7 @@ int_none : (n : ℕ) (rest : List ℕ) → n ≢ 0x80 → front (0xCD ∷ n ∷ 
 unfolding front entry_of plain_at after_opcode at_opcode read_from
 int_none n rest h =
     let bytes : List ℕ = n ∷ take 13 rest in
-    let x = numbers_there row.Int80 no_counts 192 0 0 bytes (omega arith) in
+    let x = numbers_there row.Int80 no_counts 0xC0 0 0 bytes (omega arith) in
     ap (found_front (suc (length bytes))) (rw (other_int n h) at x)
 
 ud2_none : (rest : List ℕ) → front (0x0F ∷ 0x0B ∷ rest) ≡ None

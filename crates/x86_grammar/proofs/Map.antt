@@ -33,7 +33,7 @@ abbrev right_below : ℕ → ℕ → Bool
 right_below key zero = true
 right_below key (suc n) = right key n (row_at key n) && right_below key n
 
-map_right : agree_below (λ key. right_below key 8) (λ key. true) 512 ≡ true
+map_right : agree_below (λ key. right_below key 8) (λ key. true) 0x200 ≡ true
 unfolding entry_of
 map_right = refl
 
@@ -45,9 +45,9 @@ right_at key n (suc k) h lt =
       | inr g ↦ let e : k ≡ n = omega arith in subst (λ (x : ℕ). right key x (row_at key x) ≡ true) e (and_left (right key k (row_at key k)) (right_below key k) h)
     ]
 
-pub row_right : (key n : ℕ) (r : Row) → key < 512 → n < 8 → row_at key n ≡ Some r → (key_of r ≡ key) × (fits_middle (middle_of r) n ≡ true)
+pub row_right : (key n : ℕ) (r : Row) → key < 0x200 → n < 8 → row_at key n ≡ Some r → (key_of r ≡ key) × (fits_middle (middle_of r) n ≡ true)
 row_right key n r lk ln e =
-    let t = agree_below_at (λ key. right_below key 8) (λ key. true) 512 key map_right lk in
+    let t = agree_below_at (λ key. right_below key 8) (λ key. true) 0x200 key map_right lk in
     let x : right key n (Some r) ≡ true = rw e at (right_at key n 8 t ln) in
     (eqb-true _ _ (and_left (eqb (key_of r) key) (fits_middle (middle_of r) n) x), and_right (eqb (key_of r) key) (fits_middle (middle_of r) n) x)
 
@@ -56,20 +56,20 @@ row_right key n r lk ln e =
 prefix_entry : (b : ℕ) → is_prefix b ≡ true → entry_of b ≡ entry.Nothing
 unfolding entry_of
 prefix_entry b h =
-    elim (or_cases (eqb b 102 || eqb b 46 || eqb b 62) (eqb b 243) h) [
-      | inr e ↦ rw (eqb-true b 243 e) refl
-      | inl k ↦ elim (or_cases (eqb b 102 || eqb b 46) (eqb b 62) k) [
-        | inr e ↦ rw (eqb-true b 62 e) refl
-        | inl l ↦ elim (or_cases (eqb b 102) (eqb b 46) l) [
-          | inl e ↦ rw (eqb-true b 102 e) refl
-          | inr e ↦ rw (eqb-true b 46 e) refl
+    elim (or_cases (eqb b 0x66 || eqb b 0x2E || eqb b 0x3E) (eqb b 0xF3) h) [
+      | inr e ↦ rw (eqb-true b 0xF3 e) refl
+      | inl k ↦ elim (or_cases (eqb b 0x66 || eqb b 0x2E) (eqb b 0x3E) k) [
+        | inr e ↦ rw (eqb-true b 0x3E e) refl
+        | inl l ↦ elim (or_cases (eqb b 0x66) (eqb b 0x2E) l) [
+          | inl e ↦ rw (eqb-true b 0x66 e) refl
+          | inr e ↦ rw (eqb-true b 0x2E e) refl
         ]
       ]
     ]
 
-escape_entry : (b : ℕ) → eqb b 15 ≡ true → entry_of b ≡ entry.Nothing
+escape_entry : (b : ℕ) → eqb b 0x0F ≡ true → entry_of b ≡ entry.Nothing
 unfolding entry_of
-escape_entry b h = rw (eqb-true b 15 h) refl
+escape_entry b h = rw (eqb-true b 0x0F h) refl
 
 pub nothing_there : (e : Entry) (n : ℕ) (r : Row) → row_in e n ≡ Some r → e ≡ entry.Nothing → ⊥
 nothing_there entry.Nothing n r h z = absurd cc
@@ -83,7 +83,7 @@ is_false false h = refl
 pub no_prefix : (r : Row) (n : ℕ) → row_at (key_of r) n ≡ Some r → is_prefix (key_of r) ≡ false
 no_prefix r n e = is_false _ (λ h. nothing_there _ n r e (prefix_entry (key_of r) h))
 
-pub no_escape : (r : Row) (n : ℕ) → row_at (key_of r) n ≡ Some r → eqb (key_of r) 15 ≡ false
+pub no_escape : (r : Row) (n : ℕ) → row_at (key_of r) n ≡ Some r → eqb (key_of r) 0x0F ≡ false
 no_escape r n e = is_false _ (λ h. nothing_there _ n r e (escape_entry (key_of r) h))
 
 -- ---- each member of a group has ModRM

@@ -43,7 +43,7 @@ index_in_fits false x s = refl
 index_in_fits true x s = cond_both (eqb x 4) None (Some (reg_of x)) (λ o. index_fits o (scale_of o s) ≡ true) (λ e. refl) (λ e. reg_fits x (scale_in (s / 64)) e (scale_in_fits (s / 64)))
 
 signed_word : (d : ℕ) → d < 256 → signed Four d < 256 ^ 4
-signed_word d h = cond_both (ltb d 128) d (d + (256 ^ 4 - 256)) (λ x. x < 256 ^ 4) (λ e. omega arith) (λ e. omega arith)
+signed_word d h = cond_both (ltb d 0x80) d (d + (256 ^ 4 - 256)) (λ x. x < 256 ^ 4) (λ e. omega arith) (λ e. omega arith)
 
 mod_disp : (k : ℕ) (five : Bool) (d : ℕ) → d < 256 ^ mod_size k five → disp_of (mod_size k five) d < 256 ^ 4
 mod_disp zero true d h = h
@@ -56,7 +56,7 @@ pub address_is_fit : (m s d : ℕ) → d < 256 ^ disp_size m s → address_fits 
 address_is_fit m s d h = both _ _ (index_in_fits (has_sib m) (s / 8 % 8) s) (lt-ltb _ _ (mod_disp (m / 64) (eqb (low_of m s) 5) d h))
 
 pub rm_is_fit : (o : Operand) → IsOperand o → rm_fits (rm_of o.m o.sib o.disp) ≡ true
-rm_is_fit o h = cond_both (ltb o.m 192) (rm.Mem (address o.m o.sib o.disp)) (rm.Reg (reg_of (o.m % 8))) (λ x. rm_fits x ≡ true) (λ e. address_is_fit o.m o.sib o.disp h.disp) (λ e. refl)
+rm_is_fit o h = cond_both (ltb o.m 0xC0) (rm.Mem (address o.m o.sib o.disp)) (rm.Reg (reg_of (o.m % 8))) (λ x. rm_fits x ≡ true) (λ e. address_is_fit o.m o.sib o.disp h.disp) (λ e. refl)
 
 -- ---- what fits is spelled
 
@@ -127,8 +127,8 @@ module _ (m s : ℕ) (hs : has_sib m ≡ true) where
   index_again : (ix : ℕ) (x : Option Reg) → s / 8 % 8 ≡ ix → index_in true ix ≡ x → index_of m s ≡ x
   index_again ix x hi e = rw (hs, hi) e
 
-sib_there : (m : ℕ) → m < 192 → m % 8 ≡ 4 → has_sib m ≡ true
-sib_there m lt e = both _ _ (lt-ltb m 192 lt) (eq-eqb (m % 8) 4 e)
+sib_there : (m : ℕ) → m < 0xC0 → m % 8 ≡ 4 → has_sib m ≡ true
+sib_there m lt e = both _ _ (lt-ltb m 0xC0 lt) (eq-eqb (m % 8) 4 e)
 
 same_address : (b c x y : Option Reg) (s t d e : ℕ) → b ≡ c → x ≡ y → s ≡ t → d ≡ e → ◌≡◌ {A = Address} (record { base = b; index = x; scale = s; disp = d }) (record { base = c; index = y; scale = t; disp = e })
 same_address b c x y s t d e p q u v = rw (p, q, u, v) refl
@@ -137,22 +137,22 @@ first_of : (b : Bool) (x y : Rm) → b ≡ true → cond b x y ≡ x
 first_of true x y e = refl
 first_of false x y e = absurd (false≢true e)
 
-rm_again : (m s d : ℕ) (b x : Option Reg) (sc : ℕ) → ltb m 192 ≡ true → base_of m s ≡ b → index_of m s ≡ x → scale_of x s ≡ sc → disp_of (disp_size m s) d ≡ d → rm_of m s d ≡ rm.Mem (record { base = b; index = x; scale = sc; disp = d })
+rm_again : (m s d : ℕ) (b x : Option Reg) (sc : ℕ) → ltb m 0xC0 ≡ true → base_of m s ≡ b → index_of m s ≡ x → scale_of x s ≡ sc → disp_of (disp_size m s) d ≡ d → rm_of m s d ≡ rm.Mem (record { base = b; index = x; scale = sc; disp = d })
 rm_again m s d b x sc lt eb ex es ed =
     let e1 : scale_of (index_of m s) s ≡ sc = ap (λ (y : Option Reg). scale_of y s) ex ∙ es in
     let e2 = same_address (base_of m s) b (index_of m s) x (scale_of (index_of m s) s) sc (disp_of (disp_size m s) d) d eb ex e1 ed in
-    first_of (ltb m 192) (rm.Mem (address m s d)) (rm.Reg (reg_of (m % 8))) lt ∙ ap rm.Mem e2
+    first_of (ltb m 0xC0) (rm.Mem (address m s d)) (rm.Reg (reg_of (m % 8))) lt ∙ ap rm.Mem e2
 
 module _ (n : ℕ) (low : n < 8) where
   -- by two bytes and a word of displacement
-  four_shown : (m s d : ℕ) (b x : Option Reg) (sc : ℕ) → m < 192 → m % 8 ≡ 4 → m / 8 % 8 ≡ n → s < 256 → d < 256 ^ 4 → base_of m s ≡ b → index_of m s ≡ x → scale_of x s ≡ sc → disp_size m s ≡ 4 → Shown n (rm.Mem (record { base = b; index = x; scale = sc; disp = d }))
+  four_shown : (m s d : ℕ) (b x : Option Reg) (sc : ℕ) → m < 0xC0 → m % 8 ≡ 4 → m / 8 % 8 ≡ n → s < 256 → d < 256 ^ 4 → base_of m s ≡ b → index_of m s ≡ x → scale_of x s ≡ sc → disp_size m s ≡ 4 → Shown n (rm.Mem (record { base = b; index = x; scale = sc; disp = d }))
   four_shown m s d b x sc lt me mn sl dl eb ex es size =
       let there = sib_there m lt me in
       record {
         operand = record { m = m; sib = s; disp = d };
         is = record { m = omega arith; sib = sl; none = λ e. absurd (false≢true (sym e ∙ there)); disp = subst (λ (k : ℕ). d < 256 ^ k) (sym size) dl };
         middle = mn;
-        rm = rm_again m s d b x sc (lt-ltb m 192 lt) eb ex es (ap (λ (k : ℕ). disp_of k d) size);
+        rm = rm_again m s d b x sc (lt-ltb m 0xC0 lt) eb ex es (ap (λ (k : ℕ). disp_of k d) size);
       }
 
   mem_shown : (b x : Option Reg) (sc d : ℕ) → index_fits x sc ≡ true → d < 256 ^ 4 → Shown n (rm.Mem (record { base = b; index = x; scale = sc; disp = d }))
@@ -185,8 +185,8 @@ module _ (n : ℕ) (low : n < 8) where
   reg_shown : (r : Reg) → Shown n (rm.Reg r)
   reg_shown r =
       let r_low = reg_low r in
-      let m = 192 + (8 * n + number_of_reg r) in
-      let high : ltb m 192 ≡ false = le-ltb m 192 (omega arith) in
+      let m = 0xC0 + (8 * n + number_of_reg r) in
+      let high : ltb m 0xC0 ≡ false = le-ltb m 0xC0 (omega arith) in
       let base : m % 8 ≡ number_of_reg r = omega arith in
       let top : m / 64 ≡ 3 = omega arith in
       let size : disp_size m 0 ≡ 0 = rw top refl in

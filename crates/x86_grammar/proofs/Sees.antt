@@ -185,13 +185,13 @@ module _ (c : Counts) (q : Row) (f : prefixes_fit q c ≡ true) where
   step_easy : (full : Bool) (n : ℕ) → step_row full n ≡ Some q → Easier (easiest (group.Steps full) c) q c
   step_easy false zero e = easier _ _ q c (λ g. g) (omega arith) e f
   step_easy false (suc zero) e = easier _ _ q c (λ g. g) (omega arith) e f
-  step_easy true zero e = no_hint_easy (eqb c.hints 0) true _ refl (λ g. g) e
-  step_easy true (suc zero) e = no_hint_easy (eqb c.hints 0) true _ refl (λ g. g) e
-  step_easy true (suc (suc zero)) e = hint_easy (eqb c.hints 0) _ refl (λ g. g) e
+  step_easy true zero e = no_hint_easy (eqb c.hints 0) true (row.Inc true) refl (λ g. g) e
+  step_easy true (suc zero) e = no_hint_easy (eqb c.hints 0) true (row.Dec true) refl (λ g. g) e
+  step_easy true (suc (suc zero)) e = hint_easy (eqb c.hints 0) row.CallTo refl (λ g. g) e
   step_easy true (suc (suc (suc zero))) e = absurd (none_row q e)
-  step_easy true (suc (suc (suc (suc zero)))) e = hint_easy (eqb c.hints 0) _ refl (λ g. g) e
+  step_easy true (suc (suc (suc (suc zero)))) e = hint_easy (eqb c.hints 0) row.JmpTo refl (λ g. g) e
   step_easy true (suc (suc (suc (suc (suc zero))))) e = absurd (none_row q e)
-  step_easy true (suc (suc (suc (suc (suc (suc zero)))))) e = no_hint_easy (eqb c.hints 0) false _ refl (λ g. g) e
+  step_easy true (suc (suc (suc (suc (suc (suc zero)))))) e = no_hint_easy (eqb c.hints 0) false row.Push refl (λ g. g) e
   step_easy true (suc (suc (suc (suc (suc (suc (suc n))))))) e = absurd (none_row q e)
   step_easy false (suc (suc n)) e = absurd (none_row q e)
 
@@ -230,10 +230,10 @@ module _ (r : Row) (c : Counts) (e : Entry) (p : prefixes_fit r c ≡ true) wher
             Sees-as (after_opcode e c) (m_at e (easiest q.0 c) c) _ i (λ bytes. rw (q.1) refl) (m_at_sees (easiest q.0 c) m _ i h x.fits (omega (arith, x.least)) t)
       ]
 
-  pub plain_sees : (v : ℕ) (i : Instr) → has_operand r ≡ false → row_in e 0 ≡ Some r → v < 256 ^ number_size r c 192 0 → built r c 192 0 0 v ≡ Some i → Sees (after_opcode e c) (le (number_size r c 192 0) v) i
+  pub plain_sees : (v : ℕ) (i : Instr) → has_operand r ≡ false → row_in e 0 ≡ Some r → v < 256 ^ number_size r c 0xC0 0 → built r c 0xC0 0 0 v ≡ Some i → Sees (after_opcode e c) (le (number_size r c 0xC0 0) v) i
   unfolding after_opcode plain_at
   plain_sees v i o h vlt b =
       elim (row_in_cases e 0 r h) [
-        | inl q ↦ Sees-as (after_opcode e c) (numbers r c 192 0 0) _ i (λ bytes. rw (q, o, p) refl) (numbers_sees r c 192 0 0 0 v i (lit< tt) vlt b)
+        | inl q ↦ Sees-as (after_opcode e c) (numbers r c 0xC0 0 0) _ i (λ bytes. rw (q, o, p) refl) (numbers_sees r c 0xC0 0 0 0 v i (lit< tt) vlt b)
         | inr q ↦ absurd (false≢true (sym o ∙ members_have q.0 0 r q.2))
       ]

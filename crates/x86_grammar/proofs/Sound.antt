@@ -32,13 +32,13 @@ needs_some (Some n) k e = let q : n ≡ k = (cc) in ap (λ (x : ℕ). let o : Op
 
 escape_tells : (c : Counts) → Tells (after_escape c) (Escaped c)
 unfolding after_escape
-escape_tells c = Tells-cons (after_escape c) (λ b. after_opcode (entry_of (256 + b)) c) (Escaped c) (λ b. Spelled (entry_of (256 + b)) c) (λ b bytes. refl) (λ b lt. opcode_tells (entry_of (256 + b)) c) (λ b t i lt x. escaped_here c b t i lt x) (λ i left e. needs_no _ i left e) (λ k e. escaped_wants c.halves c.segments c.hints c.repeats k (needs_some _ k e))
+escape_tells c = Tells-cons (after_escape c) (λ b. after_opcode (entry_of (0x100 + b)) c) (Escaped c) (λ b. Spelled (entry_of (0x100 + b)) c) (λ b bytes. refl) (λ b lt. opcode_tells (entry_of (0x100 + b)) c) (λ b t i lt x. escaped_here c b t i lt x) (λ i left e. needs_no _ i left e) (λ k e. escaped_wants c.halves c.segments c.hints c.repeats k (needs_some _ k e))
 
 at_tells : (c : Counts) (b : ℕ) → b < 256 → Tells (at_opcode c b) (λ t i. Prefixed c (b ∷ t) i)
 unfolding at_opcode
 at_tells c b lt =
-    elim (cases_Bool (eqb b 15)) [
-      | inl e ↦ Tells-as _ (after_escape c) _ (Escaped c) (λ bytes. rw e refl) (λ t i x. subst (λ (k : ℕ). Prefixed c (k ∷ t) i) (sym (eqb-true b 15 e)) x) (escape_tells c)
+    elim (cases_Bool (eqb b 0x0F)) [
+      | inl e ↦ Tells-as _ (after_escape c) _ (Escaped c) (λ bytes. rw e refl) (λ t i x. subst (λ (k : ℕ). Prefixed c (k ∷ t) i) (sym (eqb-true b 0x0F e)) x) (escape_tells c)
       | inr f ↦ Tells-as _ (after_opcode (entry_of b) c) _ (Spelled (entry_of b) c) (λ bytes. rw f refl) (λ t i x. here c b t i lt x) (opcode_tells (entry_of b) c)
     ]
 

@@ -33,7 +33,7 @@ pub record Behind (r : Row) (c : Counts) (m : ℕ) (t : List ℕ) (i : Instr) : 
   pub means : built r c m s d v ≡ Some i
   pub is : t ≡ sibs (has_sib m) s ++ (le (disp_size m s) d ++ le (number_size r c) v)
 
-takes_low : (r : Row) (m : ℕ) → ltb m 192 ≡ true → takes r m ≡ true
+takes_low : (r : Row) (m : ℕ) → ltb m 0xC0 ≡ true → takes r m ≡ true
 takes_low row.Lea m h = h
 takes_low _ m h = refl
 
@@ -43,11 +43,11 @@ mod_high (suc zero) five h = absurd (omega arith)
 mod_high (suc (suc zero)) five h = absurd (omega arith)
 mod_high (suc (suc (suc n))) five h = refl
 
-low_mod : (m s : ℕ) → 0 < disp_size m s → ltb m 192 ≡ true
+low_mod : (m s : ℕ) → 0 < disp_size m s → ltb m 0xC0 ≡ true
 low_mod m s h =
-    elim (cases_Bool (ltb m 192)) [
+    elim (cases_Bool (ltb m 0xC0)) [
       | inl e ↦ e
-      | inr e ↦ let high = ltb-false m 192 e in let none = mod_high (m / 64) (eqb (low_of m s) 5) (omega arith) in absurd (omega (arith, none))
+      | inr e ↦ let high = ltb-false m 0xC0 e in let none = mod_high (m / 64) (eqb (low_of m s) 5) (omega arith) in absurd (omega (arith, none))
     ]
 
 -- no number stands behind LEA with a register
@@ -63,7 +63,7 @@ module _ (r : Row) (c : Counts) (m : ℕ) (fr : free r ≡ true) where
   no_sib h t i x = record { s = 0; d = x.d; v = x.v; sib = lit< tt; none = λ e. refl; disp = x.disp; imm = x.imm; means = x.means; is = x.is ∙ sym (ap (λ (b : Bool). sibs b 0 ++ (le (disp_size m 0) x.d ++ le (number_size r c) x.v)) h) }
 
   low : has_sib m ≡ true → takes r m ≡ true
-  low h = takes_low r m (and_left (ltb m 192) (eqb (m % 8) 4) h)
+  low h = takes_low r m (and_left (ltb m 0xC0) (eqb (m % 8) 4) h)
 
   -- SIB 0 has the shortest displacement
   sib_start : has_sib m ≡ true → (k : ℕ) → sib_at r c m [] ≡ Needs k → Lacks (Behind r c m) [] k
@@ -113,7 +113,7 @@ pub record Spelled (e : Entry) (c : Counts) (t : List ℕ) (i : Instr) : Type 0 
   pub disp : d < 256 ^ disp_size m s
   pub imm : v < 256 ^ number_size row c
   pub means : built row c m s d v ≡ Some i
-  pub plain : has_operand row ≡ false → m ≡ 192
+  pub plain : has_operand row ≡ false → m ≡ 0xC0
   pub is : t ≡ part (has_operand row) m s d ++ le (number_size row c) v
 
 free_of : (r : Row) → has_operand r ≡ true → free r ≡ true
@@ -126,7 +126,7 @@ pub record Bare (e : Entry) (r : Row) : Type 0 where
   pub k : ℕ
   pub there : row_in e (k / 8 % 8) ≡ Some r
   pub small : k < 256
-  pub mem : ltb k 192 ≡ true
+  pub mem : ltb k 0xC0 ≡ true
   pub bare : has_sib k ≡ false
   pub flat : disp_size k 0 ≡ 0
 
@@ -204,10 +204,10 @@ module _ (e : Entry) (c : Counts) (ops : (n : ℕ) (r : Row) → row_in e n ≡ 
 
 -- ---- an entry
 
-plain_from : (r : Row) (c : Counts) (t : List ℕ) (i : Instr) → has_operand r ≡ false → prefixes_fit r c ≡ true → Ends r c 192 0 0 t i → Spelled (entry.One r) c t i
+plain_from : (r : Row) (c : Counts) (t : List ℕ) (i : Instr) → has_operand r ≡ false → prefixes_fit r c ≡ true → Ends r c 0xC0 0 0 t i → Spelled (entry.One r) c t i
 plain_from r c t i o p x = record {
   row = r;
-  m = 192;
+  m = 0xC0;
   s = 0;
   d = 0;
   v = x.v;
@@ -218,9 +218,9 @@ plain_from r c t i o p x = record {
   none = λ f. refl;
   disp = lit< tt;
   imm = x.imm;
-  means = let z : x.d ≡ 0 = omega (arith, x.disp) in subst (λ (d : ℕ). built r c 192 0 d x.v ≡ Some i) z x.means;
+  means = let z : x.d ≡ 0 = omega (arith, x.disp) in subst (λ (d : ℕ). built r c 0xC0 0 d x.v ≡ Some i) z x.means;
   plain = λ f. refl;
-  is = x.is ∙ sym (ap (λ (y : Bool). part y 192 0 0 ++ le (number_size r c) x.v) o);
+  is = x.is ∙ sym (ap (λ (y : Bool). part y 0xC0 0 0 ++ le (number_size r c) x.v) o);
 }
 
 plain_at_tells : (r : Row) (c : Counts) → has_operand r ≡ false → Tells (plain_at r c) (Spelled (entry.One r) c)
@@ -228,7 +228,7 @@ unfolding plain_at
 plain_at_tells r c o =
     elim (cases_Bool (prefixes_fit r c)) [
       | inr f ↦ Tells-never _ _ (λ bytes. rw f refl)
-      | inl p ↦ Tells-as _ (numbers r c 192 0 0) _ (Ends r c 192 0 0) (λ bytes. rw p refl) (λ t i x. plain_from r c t i o p x) (plain_tells r c o)
+      | inl p ↦ Tells-as _ (numbers r c 0xC0 0 0) _ (Ends r c 0xC0 0 0) (λ bytes. rw p refl) (λ t i x. plain_from r c t i o p x) (plain_tells r c o)
     ]
 
 bare_at : (e : Entry) (r : Row) → row_in e 0 ≡ Some r → Bare e r

@@ -134,10 +134,10 @@ free _ = true
 
 -- Lea takes a place in memory alone
 abbrev pub takes : Row → ℕ → Bool
-takes row.Lea m = ltb m 192
+takes row.Lea m = ltb m 0xC0
 takes _ m = true
 
-rm_mem : (m s d : ℕ) → ltb m 192 ≡ true → (a : Address) × (rm_of m s d ≡ rm.Mem a)
+rm_mem : (m s d : ℕ) → ltb m 0xC0 ≡ true → (a : Address) × (rm_of m s d ≡ rm.Mem a)
 rm_mem m s d h = (address m s d, rw h refl)
 
 pub builds : (r : Row) (h p : Bool) (n m s d v : ℕ) → free r ≡ true → takes r m ≡ true → (i : Instr) × (build r h p n (rm_of m s d) v ≡ Some i)
@@ -203,8 +203,8 @@ module _ (r : Row) (c : Counts) (m s size : ℕ) where
 
 -- ---- rows of one number, a byte
 
-module _ (r : Row) (c : Counts) (b : ℕ) (i : Instr) (size : number_size r c ≡ 1) (small : b < 256) (means : built r c 192 0 0 b ≡ Some i) where
-  only_byte : (bytes : List ℕ) (k : ℕ) → numbers r c 192 0 0 bytes ≡ Needs k → Lacks (Ends r c 192 0 0) bytes k
+module _ (r : Row) (c : Counts) (b : ℕ) (i : Instr) (size : number_size r c ≡ 1) (small : b < 256) (means : built r c 0xC0 0 0 b ≡ Some i) where
+  only_byte : (bytes : List ℕ) (k : ℕ) → numbers r c 0xC0 0 0 bytes ≡ Needs k → Lacks (Ends r c 0xC0 0 0) bytes k
   unfolding numbers
   only_byte bytes k e =
       elim (cases_of (ltb (length bytes) (0 + number_size r c)) _ _ _ e) [
@@ -223,12 +223,12 @@ module _ (r : Row) (c : Counts) (b : ℕ) (i : Instr) (size : number_size r c �
         | inr x ↦ absurd (found_no _ _ _ x.1)
       ]
 
-  byte_tells : Tells (numbers r c 192 0 0) (Ends r c 192 0 0)
-  byte_tells = record { found = numbers_found r c 192 0 0; needs = λ bytes k h e. only_byte bytes k e }
+  byte_tells : Tells (numbers r c 0xC0 0 0) (Ends r c 0xC0 0 0)
+  byte_tells = record { found = numbers_found r c 0xC0 0 0; needs = λ bytes k h e. only_byte bytes k e }
 
 -- a row without ModRM
-pub plain_tells : (r : Row) (c : Counts) → has_operand r ≡ false → Tells (numbers r c 192 0 0) (Ends r c 192 0 0)
-plain_tells row.NopEnd c o = byte_tells row.NopEnd c 251 instr.Nop refl (lit< tt) refl
-plain_tells row.Int80 c o = byte_tells row.Int80 c 128 instr.Int80 refl (lit< tt) refl
+pub plain_tells : (r : Row) (c : Counts) → has_operand r ≡ false → Tells (numbers r c 0xC0 0 0) (Ends r c 0xC0 0 0)
+plain_tells row.NopEnd c o = byte_tells row.NopEnd c 0xFB instr.Nop refl (lit< tt) refl
+plain_tells row.Int80 c o = byte_tells row.Int80 c 0x80 instr.Int80 refl (lit< tt) refl
 plain_tells row.Lea c o = absurd (false≢true (sym o))
-plain_tells _ c o = numbers_tells _ c 192 0 0 refl (λ p. refl)
+plain_tells _ c o = numbers_tells _ c 0xC0 0 0 refl (λ p. refl)

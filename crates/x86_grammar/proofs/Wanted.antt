@@ -23,30 +23,30 @@ pub record Prefixed (c : Counts) (t : List ℕ) (i : Instr) : Type 0 where
   pub key : ℕ
   pub text : List ℕ
   pub all : AllByRecursion (λ b. is_prefix b ≡ true) prefixes
-  pub small : key < 512
+  pub small : key < 0x200
   pub behind : Spelled (entry_of key) (counted c prefixes) text i
   pub is : t ≡ prefixes ++ (opcode_bytes key ++ text)
 
 abbrev pub Escaped : Counts → Texts
-Escaped c t i = Prefixed c (15 ∷ t) i
+Escaped c t i = Prefixed c (0x0F ∷ t) i
 
 one_byte : (b : ℕ) → b < 256 → opcode_bytes b ≡ b ∷ []
-one_byte b lt = rw (lt-ltb b 256 lt) refl
+one_byte b lt = rw (lt-ltb b 0x100 lt) refl
 
-two_bytes : (b : ℕ) → opcode_bytes (256 + b) ≡ 15 ∷ b ∷ []
+two_bytes : (b : ℕ) → opcode_bytes (0x100 + b) ≡ 0x0F ∷ b ∷ []
 two_bytes b =
-    let high = le-ltb (256 + b) 256 (omega arith) in
-    let low : 256 + b - 256 ≡ b = omega arith in
+    let high = le-ltb (0x100 + b) 0x100 (omega arith) in
+    let low : 0x100 + b - 0x100 ≡ b = omega arith in
     rw (high, low) refl
 
-no_prefix_yet : (c : Counts) (key : ℕ) (t : List ℕ) (i : Instr) → key < 512 → Spelled (entry_of key) c t i → Prefixed c (opcode_bytes key ++ t) i
+no_prefix_yet : (c : Counts) (key : ℕ) (t : List ℕ) (i : Instr) → key < 0x200 → Spelled (entry_of key) c t i → Prefixed c (opcode_bytes key ++ t) i
 no_prefix_yet c key t i lt x = record { prefixes = []; key = key; text = t; all = tt; small = lt; behind = x; is = refl }
 
 pub here : (c : Counts) (b : ℕ) (t : List ℕ) (i : Instr) → b < 256 → Spelled (entry_of b) c t i → Prefixed c (b ∷ t) i
 here c b t i lt x = subst (λ (o : List ℕ). Prefixed c (o ++ t) i) (one_byte b lt) (no_prefix_yet c b t i (omega arith) x)
 
-pub escaped_here : (c : Counts) (b : ℕ) (t : List ℕ) (i : Instr) → b < 256 → Spelled (entry_of (256 + b)) c t i → Escaped c (b ∷ t) i
-escaped_here c b t i lt x = subst (λ (o : List ℕ). Prefixed c (o ++ t) i) (two_bytes b) (no_prefix_yet c (256 + b) t i (omega arith) x)
+pub escaped_here : (c : Counts) (b : ℕ) (t : List ℕ) (i : Instr) → b < 256 → Spelled (entry_of (0x100 + b)) c t i → Escaped c (b ∷ t) i
+escaped_here c b t i lt x = subst (λ (o : List ℕ). Prefixed c (o ++ t) i) (two_bytes b) (no_prefix_yet c (0x100 + b) t i (omega arith) x)
 
 -- ---- a byte, and what its entry wants behind it
 
@@ -73,35 +73,35 @@ nop_fits h = rw (or-true (eqb h 0 || (eqb h 1 && false))) refl
 long_fits : (h s : ℕ) → prefixes_fit row.NopLong (counts h s 0 0) ≡ true
 long_fits h s = rw (or-true (eqb h 0 || (eqb h 1 && false)), or-true (eqb s 0)) refl
 
-nop_found : (h : ℕ) → after_opcode (entry_of 144) (counts h 0 0 0) [] ≡ Found instr.Nop 0
+nop_found : (h : ℕ) → after_opcode (entry_of 0x90) (counts h 0 0 0) [] ≡ Found instr.Nop 0
 unfolding after_opcode plain_at entry_of numbers
 nop_found h = rw (nop_fits h) refl
 
-lea_needs : (h s : ℕ) → (eqb h 0 || (eqb h 1 && true)) ≡ true → after_opcode (entry_of 141) (counts h s 0 0) [] ≡ Needs 1
+lea_needs : (h s : ℕ) → (eqb h 0 || (eqb h 1 && true)) ≡ true → after_opcode (entry_of 0x8D) (counts h s 0 0) [] ≡ Needs 1
 unfolding after_opcode m_at entry_of
 lea_needs h s e = rw (e, or-true (eqb s 0)) refl
 
-long_needs : (h s : ℕ) → after_opcode (entry_of 287) (counts h s 0 0) [] ≡ Needs 1
+long_needs : (h s : ℕ) → after_opcode (entry_of 0x11F) (counts h s 0 0) [] ≡ Needs 1
 unfolding after_opcode m_at entry_of
 long_needs h s = rw (long_fits h s) refl
 
-call_needs : after_opcode (entry_of 255) (counts 0 0 1 0) [] ≡ Needs 1
+call_needs : after_opcode (entry_of 0xFF) (counts 0 0 1 0) [] ≡ Needs 1
 unfolding after_opcode m_at entry_of
 call_needs = refl
 
-ret_found : after_opcode (entry_of 195) (counts 0 0 0 1) [] ≡ Found (instr.Ret 0) 0
+ret_found : after_opcode (entry_of 0xC3) (counts 0 0 0 1) [] ≡ Found (instr.Ret 0) 0
 unfolding after_opcode plain_at entry_of numbers
 ret_found = refl
 
-movs_found : after_opcode (entry_of 165) (counts 1 0 0 1) [] ≡ Found (instr.Movs Two true) 0
+movs_found : after_opcode (entry_of 0xA5) (counts 1 0 0 1) [] ≡ Found (instr.Movs Two true) 0
 unfolding after_opcode plain_at entry_of numbers
 movs_found = refl
 
-swap_found : after_opcode (entry_of 456) (counts 0 0 0 0) [] ≡ Found (instr.Bswap Eax) 0
+swap_found : after_opcode (entry_of 0x1C8) (counts 0 0 0 0) [] ≡ Found (instr.Bswap Eax) 0
 unfolding after_opcode plain_at entry_of numbers
 swap_found = refl
 
-end_needs : after_opcode (entry_of 286) (counts 0 0 0 1) [] ≡ Needs 1
+end_needs : after_opcode (entry_of 0x11E) (counts 0 0 0 1) [] ≡ Needs 1
 unfolding after_opcode plain_at entry_of numbers
 end_needs = refl
 
@@ -116,31 +116,31 @@ one_found c b k i lt e q = by_found (Prefixed c) c b b (λ t i x. here c b t i l
 one_needs : (c : Counts) (b k : ℕ) → b < 256 → after_opcode (entry_of b) c [] ≡ Needs 1 → Some 2 ≡ Some k → Lacks (Prefixed c) [] k
 one_needs c b k lt e q = by_needs (Prefixed c) c b b (λ t i x. here c b t i lt x) 1 k e (some_is 2 k q)
 
-escaped_found : (c : Counts) (b k : ℕ) (i : Instr) → b < 256 → after_opcode (entry_of (256 + b)) c [] ≡ Found i 0 → Some 1 ≡ Some k → Lacks (Escaped c) [] k
-escaped_found c b k i lt e q = by_found (Escaped c) c (256 + b) b (λ t i x. escaped_here c b t i lt x) i k e (some_is 1 k q)
+escaped_found : (c : Counts) (b k : ℕ) (i : Instr) → b < 256 → after_opcode (entry_of (0x100 + b)) c [] ≡ Found i 0 → Some 1 ≡ Some k → Lacks (Escaped c) [] k
+escaped_found c b k i lt e q = by_found (Escaped c) c (0x100 + b) b (λ t i x. escaped_here c b t i lt x) i k e (some_is 1 k q)
 
-escaped_needs : (c : Counts) (b k : ℕ) → b < 256 → after_opcode (entry_of (256 + b)) c [] ≡ Needs 1 → Some 2 ≡ Some k → Lacks (Escaped c) [] k
-escaped_needs c b k lt e q = by_needs (Escaped c) c (256 + b) b (λ t i x. escaped_here c b t i lt x) 1 k e (some_is 2 k q)
+escaped_needs : (c : Counts) (b k : ℕ) → b < 256 → after_opcode (entry_of (0x100 + b)) c [] ≡ Needs 1 → Some 2 ≡ Some k → Lacks (Escaped c) [] k
+escaped_needs c b k lt e q = by_needs (Escaped c) c (0x100 + b) b (λ t i x. escaped_here c b t i lt x) 1 k e (some_is 2 k q)
 
 -- 0F as well
-long_lacks : (c : Counts) (k : ℕ) → after_opcode (entry_of 287) c [] ≡ Needs 1 → Some 3 ≡ Some k → Lacks (Prefixed c) [] k
+long_lacks : (c : Counts) (k : ℕ) → after_opcode (entry_of 0x11F) c [] ≡ Needs 1 → Some 3 ≡ Some k → Lacks (Prefixed c) [] k
 long_lacks c k e q =
-    let w = escaped_needs c 31 2 (lit< tt) e refl in
-    record { more = 15 ∷ w.more; instr = w.instr; len = omega (arith, w.len, some_is 3 k q); some = omega (arith, some_is 3 k q); right = w.right }
+    let w = escaped_needs c 0x1F 2 (lit< tt) e refl in
+    record { more = 0x0F ∷ w.more; instr = w.instr; len = omega (arith, w.len, some_is 3 k q); some = omega (arith, some_is 3 k q); right = w.right }
 
 pub opcode_wants : (h s x p k : ℕ) → least_of h s x p ≡ Some k → Lacks (Prefixed (counts h s x p)) [] k
-opcode_wants h zero zero zero k e = one_found _ 144 k instr.Nop (lit< tt) (nop_found h) e
-opcode_wants zero (suc s) zero zero k e = one_needs _ 141 k (lit< tt) (lea_needs 0 (suc s) refl) e
-opcode_wants (suc zero) (suc s) zero zero k e = one_needs _ 141 k (lit< tt) (lea_needs 1 (suc s) refl) e
+opcode_wants h zero zero zero k e = one_found _ 0x90 k instr.Nop (lit< tt) (nop_found h) e
+opcode_wants zero (suc s) zero zero k e = one_needs _ 0x8D k (lit< tt) (lea_needs 0 (suc s) refl) e
+opcode_wants (suc zero) (suc s) zero zero k e = one_needs _ 0x8D k (lit< tt) (lea_needs 1 (suc s) refl) e
 opcode_wants (suc (suc h)) (suc s) zero zero k e = long_lacks _ k (long_needs (suc (suc h)) (suc s)) e
-opcode_wants zero zero (suc zero) zero k e = one_needs _ 255 k (lit< tt) call_needs e
-opcode_wants zero zero zero (suc zero) k e = one_found _ 195 k (instr.Ret 0) (lit< tt) ret_found e
-opcode_wants (suc zero) zero zero (suc zero) k e = one_found _ 165 k (instr.Movs Two true) (lit< tt) movs_found e
+opcode_wants zero zero (suc zero) zero k e = one_needs _ 0xFF k (lit< tt) call_needs e
+opcode_wants zero zero zero (suc zero) k e = one_found _ 0xC3 k (instr.Ret 0) (lit< tt) ret_found e
+opcode_wants (suc zero) zero zero (suc zero) k e = one_found _ 0xA5 k (instr.Movs Two true) (lit< tt) movs_found e
 opcode_wants h s x p k e = absurd cc
 
 pub escaped_wants : (h s x p k : ℕ) → least_escaped_of h s x p ≡ Some k → Lacks (Escaped (counts h s x p)) [] k
-escaped_wants zero zero zero zero k e = escaped_found _ 200 k (instr.Bswap Eax) (lit< tt) swap_found e
-escaped_wants (suc h) s zero zero k e = escaped_needs _ 31 k (lit< tt) (long_needs (suc h) s) e
-escaped_wants zero (suc s) zero zero k e = escaped_needs _ 31 k (lit< tt) (long_needs 0 (suc s)) e
-escaped_wants zero zero zero (suc zero) k e = escaped_needs _ 30 k (lit< tt) end_needs e
+escaped_wants zero zero zero zero k e = escaped_found _ 0xC8 k (instr.Bswap Eax) (lit< tt) swap_found e
+escaped_wants (suc h) s zero zero k e = escaped_needs _ 0x1F k (lit< tt) (long_needs (suc h) s) e
+escaped_wants zero (suc s) zero zero k e = escaped_needs _ 0x1F k (lit< tt) (long_needs 0 (suc s)) e
+escaped_wants zero zero zero (suc zero) k e = escaped_needs _ 0x1E k (lit< tt) end_needs e
 escaped_wants h s x p k e = absurd cc

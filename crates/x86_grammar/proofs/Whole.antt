@@ -12,12 +12,12 @@ use Rattle.x86_grammar.specs.declared.row.Form.{Form}
 use Rattle.x86_grammar.specs.declared.row.Counts.{Counts}
 use Rattle.x86_grammar.specs.declared.reading.Seen.TheVariants.{Found}
 use Rattle.x86_grammar.specs.Table.{entry_of, row_at}
-use Rattle.x86_grammar.specs.Rows.{key_of, has_operand}
+use Rattle.x86_grammar.specs.Rows.{bit, key_of, has_operand}
 use Rattle.x86_grammar.specs.Attributes.{imm_size}
 use Rattle.x86_grammar.specs.Meaning.{build}
 use Rattle.x86_grammar.specs.Forms.{forms}
 use Rattle.x86_grammar.specs.Operand.{le, has_sib, disp_size, rm_of, sibs, operand_bytes}
-use Rattle.x86_grammar.specs.Spells.{no_counts, counts_of, half_in, opcode_bytes, operand_part, bytes_of, one_if, Spelling, IsSpelling, Spells}
+use Rattle.x86_grammar.specs.Spells.{no_counts, counts_of, half_in, opcode_bytes, operand_part, bytes_of, Spelling, IsSpelling, Spells}
 use Rattle.x86_grammar.specs.Reading.{read, read_from, Cut}
 use Rattle.x86_grammar.proofs.Again.{row_again}
 use Rattle.x86_grammar.proofs.Bytes.{opcode_some}
@@ -74,7 +74,7 @@ module _ (i : Instr) (x : Spelling) (ok : IsSpelling x i) where
       let t = m ∷ behind_m f.row ct m s d f.imm in
       let b = means_at (m / 8 % 8) (rm_of m s d) sh.middle (rm_or_is f.rm _ sh.rm) in
       let sees = opcode_sees f.row ct (entry_of (key_of f.row)) ok.fit m s d f.imm i o there sh.is.none sh.is.disp number_at b in
-      let long : one_if (has_operand f.row) + imm_size f.row (half_in f.row ct) ≤ length t = rw o (omega (arith, imm-length, length-append (sibs (has_sib m) s) (le (disp_size m s) d ++ imm_bytes), length-append (le (disp_size m s) d) imm_bytes)) in
+      let long : bit (has_operand f.row) + imm_size f.row (half_in f.row ct) ≤ length t = rw o (omega (arith, imm-length, length-append (sibs (has_sib m) s) (le (disp_size m s) d ++ imm_bytes), length-append (le (disp_size m s) d) imm_bytes)) in
       let e : t ≡ operand_bytes x.operand ++ imm_bytes = ap (λ (y : List ℕ). m ∷ y) (sym (append_assoc (sibs (has_sib m) s) (le (disp_size m s) d) imm_bytes)) in
       subst (λ (y : List ℕ). Sees read (x.prefixes ++ (opcode_bytes (key_of f.row) ++ y)) i) e (behind t (front_sees f.row ct t i ok.fit long (m / 8 % 8) there sees))
 

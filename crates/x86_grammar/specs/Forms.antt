@@ -26,6 +26,7 @@ use Rattle.x86_grammar.specs.Parts.{full_of, with_rm, plain, repeated, if_signed
 abbrev pub alu_byte : Width → AluOp → Rm → ℕ → List Form
 alu_byte w op to v = not_one w (if_signed w v (λ b. with_rm row.AluByte w (number_of_alu op) to b))
 
+-- a register, a place in memory or a constant as the source
 abbrev pub alu_forms : AluOp → Width → Rm → Src → List Form
 alu_forms op w to (src.Reg r) = with_rm (row.AluToRm op (full_of w)) w (number_of_reg r) to 0 ∷ if_reg to (λ t. with_rm (row.AluToReg op (full_of w)) w (number_of_reg t) (rm.Reg r) 0 ∷ [])
 alu_forms op w to (src.Mem a) = if_reg to (λ t. with_rm (row.AluToReg op (full_of w)) w (number_of_reg t) (rm.Mem a) 0 ∷ [])
@@ -43,18 +44,22 @@ number_only None None s f = if s == 1 then f ∷ [] else []
 number_only None (Some r) s f = []
 number_only (Some r) i s f = []
 
+-- a place in memory that is a number alone
 abbrev pub if_number : Rm → (ℕ → Form) → List Form
 if_number (rm.Reg r) f = []
 if_number (rm.Mem a) f = number_only a.base a.index a.scale (f a.disp)
 
+-- A0 and A1 load the accumulator
 abbrev pub mov_load : Width → Reg → Address → List Form
 mov_load w Eax a = if_number (rm.Mem a) (λ d. plain (row.MovLoad (full_of w)) w d)
 mov_load w _ a = []
 
+-- A2 and A3 store it
 abbrev pub mov_store : Width → Rm → Reg → List Form
 mov_store w to Eax = if_number to (λ d. plain (row.MovStore (full_of w)) w d)
 mov_store w to _ = []
 
+-- "MOV": to or from a register, of a constant, and of the accumulator
 abbrev pub mov_forms : Width → Rm → Src → List Form
 mov_forms w to (src.Reg r) = with_rm (row.MovToRm (full_of w)) w (number_of_reg r) to 0 ∷ (if_reg to (λ t. with_rm (row.MovToReg (full_of w)) w (number_of_reg t) (rm.Reg r) 0 ∷ []) ++ mov_store w to r)
 mov_forms w to (src.Mem a) = if_reg to (λ t. with_rm (row.MovToReg (full_of w)) w (number_of_reg t) (rm.Mem a) 0 ∷ mov_load w t a)
@@ -101,10 +106,12 @@ abbrev pub other_reg : Reg → Form → List Form
 other_reg Eax f = []
 other_reg _ f = f ∷ []
 
+-- 91 to 97
 abbrev pub xchg_short : Width → Rm → Reg → List Form
 xchg_short w (rm.Reg Eax) r = other_reg r (plain (row.XchgAcc r) w 0)
 xchg_short w _ r = []
 
+-- "XCHG": by ModRM, and with the accumulator
 abbrev pub xchg_forms : Width → Rm → Reg → List Form
 xchg_forms w left r = with_rm (row.Xchg (full_of w)) w (number_of_reg r) left 0 ∷ not_one w (xchg_short w left r)
 
@@ -162,10 +169,11 @@ forms (instr.Jcc c by) = plain (row.JccNear c) Four by ∷ if_signed Four by (λ
 forms (instr.Call by) = plain row.CallNear Four by ∷ []
 forms (instr.Ret drop) = ret_forms drop
 forms instr.Leave = plain row.Leave Four 0 ∷ []
-forms instr.Int80 = plain row.Int80 Four 128 ∷ []
+forms instr.Int80 = plain row.Int80 Four 0x80 ∷ []
 forms instr.Cld = plain row.Cld Four 0 ∷ []
-forms instr.Nop = plain row.Nop Four 0 ∷ plain row.NopLong Four 0 ∷ repeated row.NopEnd Four true 251 ∷ []
+forms instr.Nop = plain row.Nop Four 0 ∷ plain row.NopLong Four 0 ∷ repeated row.NopEnd Four true 0xFB ∷ []
 
+-- the form is in the list
 abbrev pub In : Form → List Form → Type 0
 In f [] = ⊥
 In f (g ∷ gs) = (f ≡ g) ⊎ In f gs

@@ -1,164 +1,164 @@
--- The opcode of each row, its middle field, and whether ModRM stands. The opcode is a number: 256 stands
--- for 0F before the byte. Intel SDM volume 2, appendix A, tables A-2, A-3 and A-6.
+-- Written by tools/rows.py.
+-- The facts of each row, a line each in the order of the opcode map: opcode, ModRM with its reg field, prefixes, and the number at
+-- the end. Intel SDM volume 2, section 2.1.1, appendix A, tables A-2, A-3 and A-6, and the pages that
+-- Forms names; which prefixes may stand is this project's own rule.
 use Rattle.std.specs.Prelude.{ℕ, ◌+◌, ◌*◌, Bool, true, false, ◌==◌}
+use Rattle.x86_types.specs.declared.operand.Reg.{Reg}
 use Rattle.x86_types.specs.declared.operand.Reg.TheVariants as reg
 use Rattle.x86_types.specs.Numbers.{number_of_reg, number_of_alu, number_of_shift, number_of_cond}
 use Rattle.x86_grammar.specs.declared.row.Row.{Row}
 use Rattle.x86_grammar.specs.declared.row.Row.TheVariants as row
+use Rattle.x86_grammar.specs.declared.row.Attributes.{Attributes}
+use Rattle.x86_grammar.specs.declared.row.F3.{F3}
+use Rattle.x86_grammar.specs.declared.row.F3.TheVariants.{Never, May, Must}
+use Rattle.x86_grammar.specs.declared.row.ImmSize.{ImmSize}
+use Rattle.x86_grammar.specs.declared.row.ImmSize.TheVariants.{NoImm, Imm8, Imm16, Imm32, ImmOperand}
+use Rattle.x86_grammar.specs.declared.row.Prefixes.{Prefixes}
+use Rattle.x86_grammar.specs.declared.row.RegField.{RegField}
+use Rattle.x86_grammar.specs.declared.row.RegField.TheVariants.{Any, Is, Nowhere}
 
+-- a truth value as a bit
 abbrev pub bit : Bool → ℕ
 bit false = 0
 bit true = 1
 
+-- which prefixes a row knows: one 66 that makes width Two, any number of 66, any number of 2E, one 3E, and F3
+abbrev pub known : Bool → Bool → Bool → Bool → F3 → Prefixes
+known size a66 a2e o3e f = record { operand_size = size; any_66 = a66; any_2e = a2e; one_3e = o3e; f3 = f }
+
+-- none
+abbrev pub no_prefix : Prefixes
+no_prefix = known false false false false Never
+
+-- one 66, where the w bit is 1
+abbrev pub sized : Bool → Prefixes
+sized w = known w false false false Never
+
+-- one 66 and any number of 2E
+abbrev pub sized_2e : Prefixes
+sized_2e = known true false true false Never
+
+-- any number of 66
+abbrev pub any_66 : Prefixes
+any_66 = known false true false false Never
+
+-- any number of 66 and of 2E
+abbrev pub any_66_2e : Prefixes
+any_66_2e = known false true true false Never
+
+-- one 3E
+abbrev pub one_3e : Prefixes
+one_3e = known false false false true Never
+
+-- F3, and one 66 where the w bit is 1
+abbrev pub may_f3 : Bool → Prefixes
+may_f3 w = known w false false false May
+
+-- F3, without which the row isn't there
+abbrev pub must_f3 : Prefixes
+must_f3 = known false false false false Must
+
+-- 90 is no exchange
+abbrev pub not_eax : Reg → RegField
+not_eax reg.Eax = Nowhere
+not_eax _ = Any
+
+-- a row with ModRM
+abbrev pub modrm : ℕ → RegField → Prefixes → ImmSize → Attributes
+modrm o n p i = record { opcode = o; modrm = true; reg_field = n; prefixes = p; imm = i }
+
+-- a row without ModRM
+abbrev pub alone : ℕ → RegField → Prefixes → ImmSize → Attributes
+alone o n p i = record { opcode = o; modrm = false; reg_field = n; prefixes = p; imm = i }
+
+-- in an opcode 0x100 stands for 0F before the byte
+abbrev pub attributes_of : Row → Attributes
+attributes_of (row.AluToRm op w) = modrm (8 * number_of_alu op + bit w) Any (sized w) NoImm
+attributes_of (row.AluToReg op w) = modrm (8 * number_of_alu op + (2 + bit w)) Any (sized w) NoImm
+attributes_of (row.AluAcc op w) = alone (8 * number_of_alu op + (4 + bit w)) Any (sized w) (ImmOperand w)
+attributes_of (row.IncReg r) = alone (0x40 + number_of_reg r) Any (sized true) NoImm
+attributes_of (row.DecReg r) = alone (0x48 + number_of_reg r) Any (sized true) NoImm
+attributes_of (row.PushReg r) = alone (0x50 + number_of_reg r) Any no_prefix NoImm
+attributes_of (row.PopReg r) = alone (0x58 + number_of_reg r) Any no_prefix NoImm
+attributes_of row.PushWord = alone 0x68 Any no_prefix Imm32
+attributes_of row.ImulWord = modrm 0x69 Any (sized true) (ImmOperand true)
+attributes_of row.PushByte = alone 0x6A Any no_prefix Imm8
+attributes_of row.ImulByte = modrm 0x6B Any (sized true) Imm8
+attributes_of (row.JccShort c) = alone (0x70 + number_of_cond c) Any no_prefix Imm8
+attributes_of (row.AluImm w) = modrm (0x80 + bit w) Any (sized w) (ImmOperand w)
+attributes_of row.AluByte = modrm 0x83 Any (sized true) Imm8
+attributes_of (row.TestRm w) = modrm (0x84 + bit w) Any (sized w) NoImm
+attributes_of (row.Xchg w) = modrm (0x86 + bit w) Any (sized w) NoImm
+attributes_of (row.MovToRm w) = modrm (0x88 + bit w) Any (sized w) NoImm
+attributes_of (row.MovToReg w) = modrm (0x8A + bit w) Any (sized w) NoImm
+attributes_of row.Lea = modrm 0x8D Any sized_2e NoImm
+attributes_of row.Pop = modrm 0x8F (Is 0) no_prefix NoImm
+attributes_of (row.XchgAcc r) = alone (0x90 + number_of_reg r) (not_eax r) (sized true) NoImm
+attributes_of row.Nop = alone 0x90 Any any_66 NoImm
+attributes_of row.Extend = alone 0x98 Any (sized true) NoImm
+attributes_of row.Spread = alone 0x99 Any (sized true) NoImm
+attributes_of (row.MovLoad w) = alone (0xA0 + bit w) Any (sized w) Imm32
+attributes_of (row.MovStore w) = alone (0xA2 + bit w) Any (sized w) Imm32
+attributes_of (row.Movs w) = alone (0xA4 + bit w) Any (may_f3 w) NoImm
+attributes_of (row.TestAcc w) = alone (0xA8 + bit w) Any (sized w) (ImmOperand w)
+attributes_of (row.Stos w) = alone (0xAA + bit w) Any (may_f3 w) NoImm
+attributes_of (row.MovReg r w) = alone (0xB0 + (8 * bit w + number_of_reg r)) Any (sized w) (ImmOperand w)
+attributes_of (row.ShiftImm op w) = modrm (0xC0 + bit w) (Is (number_of_shift op)) (sized w) Imm8
+attributes_of row.RetDrop = alone 0xC2 Any no_prefix Imm16
+attributes_of row.Ret = alone 0xC3 Any (may_f3 false) NoImm
+attributes_of (row.MovImm w) = modrm (0xC6 + bit w) (Is 0) (sized w) (ImmOperand w)
+attributes_of row.Leave = alone 0xC9 Any no_prefix NoImm
+attributes_of row.Int80 = alone 0xCD Any no_prefix Imm8
+attributes_of (row.ShiftOne op w) = modrm (0xD0 + bit w) (Is (number_of_shift op)) (sized w) NoImm
+attributes_of (row.ShiftCl op w) = modrm (0xD2 + bit w) (Is (number_of_shift op)) (sized w) NoImm
+attributes_of row.CallNear = alone 0xE8 Any no_prefix Imm32
+attributes_of row.JmpNear = alone 0xE9 Any no_prefix Imm32
+attributes_of row.JmpShort = alone 0xEB Any no_prefix Imm8
+attributes_of (row.TestImm w) = modrm (0xF6 + bit w) (Is 0) (sized w) (ImmOperand w)
+attributes_of (row.Not w) = modrm (0xF6 + bit w) (Is 2) (sized w) NoImm
+attributes_of (row.Neg w) = modrm (0xF6 + bit w) (Is 3) (sized w) NoImm
+attributes_of (row.Mul w) = modrm (0xF6 + bit w) (Is 4) (sized w) NoImm
+attributes_of (row.ImulWide w) = modrm (0xF6 + bit w) (Is 5) (sized w) NoImm
+attributes_of (row.Div w) = modrm (0xF6 + bit w) (Is 6) (sized w) NoImm
+attributes_of (row.Idiv w) = modrm (0xF6 + bit w) (Is 7) (sized w) NoImm
+attributes_of row.Cld = alone 0xFC Any no_prefix NoImm
+attributes_of (row.Inc w) = modrm (0xFE + bit w) (Is 0) (sized w) NoImm
+attributes_of (row.Dec w) = modrm (0xFE + bit w) (Is 1) (sized w) NoImm
+attributes_of row.CallTo = modrm 0xFF (Is 2) one_3e NoImm
+attributes_of row.JmpTo = modrm 0xFF (Is 4) one_3e NoImm
+attributes_of row.Push = modrm 0xFF (Is 6) no_prefix NoImm
+attributes_of row.NopEnd = alone 0x11E Any must_f3 Imm8
+attributes_of row.NopLong = modrm 0x11F (Is 0) any_66_2e NoImm
+attributes_of (row.Cmov c) = modrm (0x140 + number_of_cond c) Any (sized true) NoImm
+attributes_of (row.JccNear c) = alone (0x180 + number_of_cond c) Any no_prefix Imm32
+attributes_of (row.Setcc c) = modrm (0x190 + number_of_cond c) (Is 0) no_prefix NoImm
+attributes_of row.ShldImm = modrm 0x1A4 Any no_prefix Imm8
+attributes_of row.ShldCl = modrm 0x1A5 Any no_prefix NoImm
+attributes_of row.ShrdImm = modrm 0x1AC Any no_prefix Imm8
+attributes_of row.ShrdCl = modrm 0x1AD Any no_prefix NoImm
+attributes_of row.Imul = modrm 0x1AF Any (sized true) NoImm
+attributes_of row.MovzxByte = modrm 0x1B6 Any (sized true) NoImm
+attributes_of row.MovzxWord = modrm 0x1B7 Any no_prefix NoImm
+attributes_of row.Bsf = modrm 0x1BC Any (sized true) NoImm
+attributes_of row.Bsr = modrm 0x1BD Any (sized true) NoImm
+attributes_of row.MovsxByte = modrm 0x1BE Any (sized true) NoImm
+attributes_of row.MovsxWord = modrm 0x1BF Any no_prefix NoImm
+attributes_of (row.BswapReg r) = alone (0x1C8 + number_of_reg r) Any no_prefix NoImm
+
+-- the row's opcode
 abbrev pub key_of : Row → ℕ
-key_of (row.AluToRm op full) = 8 * number_of_alu op + bit full
-key_of (row.AluToReg op full) = 8 * number_of_alu op + (2 + bit full)
-key_of (row.AluAcc op full) = 8 * number_of_alu op + (4 + bit full)
-key_of (row.AluImm full) = 128 + bit full
-key_of row.AluByte = 131
-key_of (row.TestRm full) = 132 + bit full
-key_of (row.TestAcc full) = 168 + bit full
-key_of (row.TestImm full) = 246 + bit full
-key_of (row.MovToRm full) = 136 + bit full
-key_of (row.MovToReg full) = 138 + bit full
-key_of (row.MovReg r full) = 176 + (8 * bit full + number_of_reg r)
-key_of (row.MovImm full) = 198 + bit full
-key_of (row.MovLoad full) = 160 + bit full
-key_of (row.MovStore full) = 162 + bit full
-key_of row.Lea = 141
-key_of (row.IncReg r) = 64 + number_of_reg r
-key_of (row.DecReg r) = 72 + number_of_reg r
-key_of (row.Inc full) = 254 + bit full
-key_of (row.Dec full) = 254 + bit full
-key_of (row.Not full) = 246 + bit full
-key_of (row.Neg full) = 246 + bit full
-key_of (row.Mul full) = 246 + bit full
-key_of (row.ImulWide full) = 246 + bit full
-key_of (row.Div full) = 246 + bit full
-key_of (row.Idiv full) = 246 + bit full
-key_of row.Imul = 431
-key_of row.ImulWord = 105
-key_of row.ImulByte = 107
-key_of (row.ShiftImm op full) = 192 + bit full
-key_of (row.ShiftOne op full) = 208 + bit full
-key_of (row.ShiftCl op full) = 210 + bit full
-key_of row.ShldImm = 420
-key_of row.ShldCl = 421
-key_of row.ShrdImm = 428
-key_of row.ShrdCl = 429
-key_of (row.PushReg r) = 80 + number_of_reg r
-key_of row.PushWord = 104
-key_of row.PushByte = 106
-key_of row.Push = 255
-key_of (row.PopReg r) = 88 + number_of_reg r
-key_of row.Pop = 143
-key_of (row.Xchg full) = 134 + bit full
-key_of (row.XchgAcc r) = 144 + number_of_reg r
-key_of row.MovzxByte = 438
-key_of row.MovzxWord = 439
-key_of row.MovsxByte = 446
-key_of row.MovsxWord = 447
-key_of (row.Cmov c) = 320 + number_of_cond c
-key_of (row.Setcc c) = 400 + number_of_cond c
-key_of row.Extend = 152
-key_of row.Spread = 153
-key_of row.Bsf = 444
-key_of row.Bsr = 445
-key_of (row.BswapReg r) = 456 + number_of_reg r
-key_of (row.Movs full) = 164 + bit full
-key_of (row.Stos full) = 170 + bit full
-key_of row.JmpShort = 235
-key_of row.JmpNear = 233
-key_of row.JmpTo = 255
-key_of row.CallTo = 255
-key_of (row.JccShort c) = 112 + number_of_cond c
-key_of (row.JccNear c) = 384 + number_of_cond c
-key_of row.CallNear = 232
-key_of row.Ret = 195
-key_of row.RetDrop = 194
-key_of row.Leave = 201
-key_of row.Int80 = 205
-key_of row.Cld = 252
-key_of row.Nop = 144
-key_of row.NopLong = 287
-key_of row.NopEnd = 286
+key_of r = (attributes_of r).opcode
 
--- the middle field of ModRM: any, one alone where rows share an opcode, or none at all
-pub data Middle : Type 0 where
-  Any : Middle
-  Is : ℕ → Middle
-  Nowhere : Middle
+-- the values of ModRM's reg field
+abbrev pub middle_of : Row → RegField
+middle_of r = (attributes_of r).reg_field
 
-abbrev pub middle_of : Row → Middle
-middle_of (row.TestImm full) = Is 0
-middle_of (row.MovImm full) = Is 0
-middle_of (row.Inc full) = Is 0
-middle_of (row.Dec full) = Is 1
-middle_of (row.Not full) = Is 2
-middle_of (row.Neg full) = Is 3
-middle_of (row.Mul full) = Is 4
-middle_of (row.ImulWide full) = Is 5
-middle_of (row.Div full) = Is 6
-middle_of (row.Idiv full) = Is 7
-middle_of (row.ShiftImm op full) = Is (number_of_shift op)
-middle_of (row.ShiftOne op full) = Is (number_of_shift op)
-middle_of (row.ShiftCl op full) = Is (number_of_shift op)
-middle_of row.Push = Is 6
-middle_of row.Pop = Is 0
-middle_of (row.XchgAcc reg.Eax) = Nowhere
-middle_of (row.Setcc c) = Is 0
-middle_of row.JmpTo = Is 4
-middle_of row.CallTo = Is 2
-middle_of row.NopLong = Is 0
-middle_of _ = Any
-
-abbrev pub fits_middle : Middle → ℕ → Bool
+-- whether a reg field is one of them
+abbrev pub fits_middle : RegField → ℕ → Bool
 fits_middle Any n = true
 fits_middle (Is m) n = m == n
 fits_middle Nowhere n = false
 
--- whether ModRM stands behind it
+-- whether ModRM stands behind the opcode
 abbrev pub has_operand : Row → Bool
-has_operand (row.AluToRm op full) = true
-has_operand (row.AluToReg op full) = true
-has_operand (row.AluImm full) = true
-has_operand row.AluByte = true
-has_operand (row.TestRm full) = true
-has_operand (row.TestImm full) = true
-has_operand (row.MovToRm full) = true
-has_operand (row.MovToReg full) = true
-has_operand (row.MovImm full) = true
-has_operand row.Lea = true
-has_operand (row.Inc full) = true
-has_operand (row.Dec full) = true
-has_operand (row.Not full) = true
-has_operand (row.Neg full) = true
-has_operand (row.Mul full) = true
-has_operand (row.ImulWide full) = true
-has_operand (row.Div full) = true
-has_operand (row.Idiv full) = true
-has_operand row.Imul = true
-has_operand row.ImulWord = true
-has_operand row.ImulByte = true
-has_operand (row.ShiftImm op full) = true
-has_operand (row.ShiftOne op full) = true
-has_operand (row.ShiftCl op full) = true
-has_operand row.ShldImm = true
-has_operand row.ShldCl = true
-has_operand row.ShrdImm = true
-has_operand row.ShrdCl = true
-has_operand row.Push = true
-has_operand row.Pop = true
-has_operand (row.Xchg full) = true
-has_operand row.MovzxByte = true
-has_operand row.MovzxWord = true
-has_operand row.MovsxByte = true
-has_operand row.MovsxWord = true
-has_operand (row.Cmov c) = true
-has_operand (row.Setcc c) = true
-has_operand row.Bsf = true
-has_operand row.Bsr = true
-has_operand row.JmpTo = true
-has_operand row.CallTo = true
-has_operand row.NopLong = true
-has_operand _ = false
+has_operand r = (attributes_of r).modrm

@@ -5,22 +5,21 @@ use Rattle.x86_types.specs.declared.instr.Instr.{Instr}
 use Rattle.x86_grammar.specs.declared.row.Form.{Form}
 use Rattle.x86_grammar.specs.declared.row.Row.{Row}
 use Rattle.x86_grammar.specs.declared.row.Counts.{Counts}
-use Rattle.x86_grammar.specs.Rows.{key_of, has_operand}
-use Rattle.x86_grammar.specs.Attributes.{can_half, any_halves, any_segments, can_hint, rep_fits, imm_size}
+use Rattle.x86_grammar.specs.declared.row.Prefixes.{Prefixes}
+use Rattle.x86_grammar.specs.Rows.{bit, attributes_of, key_of, has_operand}
+use Rattle.x86_grammar.specs.Attributes.{f3_fits, imm_size}
 use Rattle.x86_grammar.specs.Forms.{In, forms}
 use Rattle.x86_grammar.specs.Operand.{Operand, IsOperand, operand_bytes, rm_of, le}
 
 -- 66, 2E, 3E and F3
 abbrev pub is_prefix : ℕ → Bool
-is_prefix b = b == 102 || b == 46 || b == 62 || b == 243
+is_prefix b = b == 0x66 || b == 0x2E || b == 0x3E || b == 0xF3
 
-abbrev pub one_if : Bool → ℕ
-one_if true = 1
-one_if false = 0
-
+-- one prefix more
 abbrev pub more : Counts → ℕ → Counts
-more c b = record { halves = c.halves + one_if (b == 102); segments = c.segments + one_if (b == 46); hints = c.hints + one_if (b == 62); repeats = c.repeats + one_if (b == 243) }
+more c b = record { halves = c.halves + bit (b == 0x66); segments = c.segments + bit (b == 0x2E); hints = c.hints + bit (b == 0x3E); repeats = c.repeats + bit (b == 0xF3) }
 
+-- no prefix
 abbrev pub no_counts : Counts
 no_counts = record { halves = 0; segments = 0; hints = 0; repeats = 0 }
 
@@ -29,18 +28,29 @@ abbrev pub counted : Counts → List ℕ → Counts
 counted c [] = c
 counted c (b ∷ ps) = counted (more c b) ps
 
+-- how many of each prefix
 abbrev pub counts_of : List ℕ → Counts
 counts_of ps = counted no_counts ps
 
--- the prefixes are those that the row knows
+-- whether one 66 makes width Two
+abbrev pub known_half : Prefixes → Counts → Bool
+known_half k c = c.halves == 1 && k.operand_size
+
+-- whether the prefixes are among those that are known
+abbrev pub known_fit : Prefixes → Counts → Bool
+known_fit k c = ((c.halves == 0 || known_half k c) || k.any_66) && (c.segments == 0 || k.any_2e) && (c.hints == 0 || (c.hints == 1 && k.one_3e)) && nat_lt c.repeats 2 && f3_fits k.f3 (c.repeats == 1)
+
+-- those of a row
 abbrev pub prefixes_fit : Row → Counts → Bool
-prefixes_fit r c = ((c.halves == 0 || (c.halves == 1 && can_half r)) || any_halves r) && (c.segments == 0 || any_segments r) && (c.hints == 0 || (c.hints == 1 && can_hint r)) && nat_lt c.repeats 2 && rep_fits r (c.repeats == 1)
+prefixes_fit r c = known_fit (attributes_of r).prefixes c
 
+-- whether 66 makes width Two
 abbrev pub half_in : Row → Counts → Bool
-half_in r c = c.halves == 1 && can_half r
+half_in r c = known_half (attributes_of r).prefixes c
 
+-- one byte, or 0F and a byte
 abbrev pub opcode_bytes : ℕ → List ℕ
-opcode_bytes key = if nat_lt key 256 then key ∷ [] else 15 ∷ (key - 256) ∷ []
+opcode_bytes key = if nat_lt key 0x100 then key ∷ [] else 0x0F ∷ (key - 0x100) ∷ []
 
 -- a form on its prefixes and its operand
 pub record Spelling : Type 0 where
@@ -48,10 +58,12 @@ pub record Spelling : Type 0 where
   pub form : Form
   pub operand : Operand
 
+-- ModRM with what follows it, where it stands
 abbrev pub operand_part : Bool → Operand → List ℕ
 operand_part true o = operand_bytes o
 operand_part false o = []
 
+-- prefixes, opcode, operand, and the number at the end
 abbrev pub bytes_of : Spelling → List ℕ
 bytes_of s = s.prefixes ++ (opcode_bytes (key_of s.form.row) ++ (operand_part (has_operand s.form.row) s.operand ++ le (imm_size s.form.row s.form.half) s.form.imm))
 
@@ -61,6 +73,8 @@ pub record Shows (o : Operand) (f : Form) : Type 0 where
   pub middle : o.m / 8 % 8 ≡ f.middle
   pub rm : IfSome f.rm (λ m. rm_of o.m o.sib o.disp ≡ m)
 
+-- The form is one of the instruction's, the prefixes are known and say what the form does, ModRM stands where the row
+-- has it, and the number at the end has its bytes.
 pub record IsSpelling (s : Spelling) (i : Instr) : Type 0 where
   pub among : In s.form (forms i)
   pub prefixes : AllByRecursion (λ b. is_prefix b ≡ true) s.prefixes

@@ -34,14 +34,17 @@ step_row true (suc (suc (suc (suc zero)))) = Some row.JmpTo
 step_row true (suc (suc (suc (suc (suc (suc zero)))))) = Some row.Push
 step_row full _ = None
 
+-- the row of a shift, where one is
 abbrev pub shift_row : Option ShiftOp → (ShiftOp → Row) → Option Row
 shift_row None f = None
 shift_row (Some op) f = Some (f op)
 
+-- a group with one row, at 0
 abbrev pub first_row : Row → ℕ → Option Row
 first_row r zero = Some r
 first_row r (suc n) = None
 
+-- the row of a group at that reg field
 abbrev pub member_of : Group → ℕ → Option Row
 member_of group.Pops n = first_row row.Pop n
 member_of (group.Moves full) n = first_row (row.MovImm full) n
@@ -53,10 +56,12 @@ member_of (group.ShiftsCl full) n = shift_row (shift_of n) (λ op. row.ShiftCl o
 member_of (group.Sets c) n = first_row (row.Setcc c) n
 member_of group.Nops n = first_row row.NopLong n
 
+-- the row of an entry at that reg field
 abbrev pub row_in : Entry → ℕ → Option Row
 row_in entry.Nothing n = None
 row_in (entry.One r) n = Some r
 row_in (entry.By g) n = member_of g n
 
+-- the row of an opcode at that reg field
 abbrev pub row_at : ℕ → ℕ → Option Row
 row_at key n = row_in (entry_of key) n

@@ -15,11 +15,13 @@ use Rattle.x86_types.specs.declared.instr.Instr.{Instr}
 use Rattle.x86_types.specs.declared.instr.Instr.TheVariants as instr
 use Rattle.x86_grammar.specs.Spells.{Spells}
 
+-- an address by base, index, scale and displacement
 abbrev pub at : Option Reg → Option Reg → ℕ → ℕ → Address
 at b x s d = record { base = b; index = x; scale = s; disp = d }
 
 -- ---- the tables, by tools/worked.py
 
+-- bytes with the instruction that they spell
 abbrev pub worked : List (List ℕ × Instr)
 worked =
     (0x00 ∷ 0xC8 ∷ [], instr.Alu alu.Add One (rm.Reg reg.Eax) (src.Reg reg.Ecx)) ∷
@@ -127,6 +129,7 @@ worked =
     (0xF3 ∷ 0x0F ∷ 0x1E ∷ 0xFB ∷ [], instr.Nop) ∷
     []
 
+-- bytes that spell nothing
 abbrev pub in_vain : List (List ℕ)
 in_vain =
     (0x82 ∷ 0xC0 ∷ 0x01 ∷ []) ∷
@@ -151,8 +154,10 @@ in_vain =
     (0x2E ∷ 0x2E ∷ 0x2E ∷ 0x2E ∷ 0x2E ∷ 0x2E ∷ 0x2E ∷ 0x2E ∷ 0x2E ∷ 0x2E ∷ 0x2E ∷ 0x2E ∷ 0x2E ∷ 0x2E ∷ 0x2E ∷ 0x2E ∷ []) ∷
     []
 
+-- each row's bytes spell its instruction
 abbrev pub AllSpelled : Type 0
 AllSpelled = AllByRecursion (λ (row : List ℕ × Instr). Spells row.0 row.1) worked
 
+-- each row's bytes spell nothing
 abbrev pub NoneSpelled : Type 0
 NoneSpelled = AllByRecursion (λ (bytes : List ℕ). (i : Instr) → Spells bytes i → ⊥) in_vain

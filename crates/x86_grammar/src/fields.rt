@@ -1,5 +1,6 @@
 ghost use Rattle.std.specs.Prelude.{◌≡◌};
 ghost use Rattle.x86_grammar.specs.Fields as spec;
+ghost use Rattle.x86_grammar.specs.Parts as parts;
 
 use x86_types::{Address, Count, Instr, Reg, Rm, Src, Width};
 
@@ -59,8 +60,8 @@ fn count_fits(count: Count) -> bool
     }
 }
 
-fn is_wide(width: Width) -> bool
-    ensures { result ≡ spec.is_wide width }
+fn w_bit(width: Width) -> bool
+    ensures { result ≡ parts.full_of width }
 {
     match width {
         Width::One => false,
@@ -126,7 +127,7 @@ pub(crate) fn fields_fit(instr: Instr) -> bool
         } => moves_fit(width, to, from),
         Instr::Test { width, left, right } => test_fits(width, left, right),
         Instr::Mov { width, to, from } => moves_fit(width, to, from),
-        Instr::Lea { width, to: _, at } => is_wide(width) && address_fits(at),
+        Instr::Lea { width, to: _, at } => w_bit(width) && address_fits(at),
         Instr::Inc { width: _, to } => rm_fits(to),
         Instr::Dec { width: _, to } => rm_fits(to),
         Instr::Not { width: _, to } => rm_fits(to),
@@ -135,13 +136,13 @@ pub(crate) fn fields_fit(instr: Instr) -> bool
         Instr::ImulWide { width: _, from } => rm_fits(from),
         Instr::Div { width: _, from } => rm_fits(from),
         Instr::Idiv { width: _, from } => rm_fits(from),
-        Instr::Imul { width, to: _, from } => is_wide(width) && rm_fits(from),
+        Instr::Imul { width, to: _, from } => w_bit(width) && rm_fits(from),
         Instr::ImulBy {
             width,
             to: _,
             from,
             by,
-        } => { is_wide(width) && (rm_fits(from) && number_fits(width, by)) }
+        } => { w_bit(width) && (rm_fits(from) && number_fits(width, by)) }
         Instr::Shift {
             op: _,
             width: _,
@@ -174,12 +175,12 @@ pub(crate) fn fields_fit(instr: Instr) -> bool
             width,
             to: _,
             from,
-        } => is_wide(width) && rm_fits(from),
+        } => w_bit(width) && rm_fits(from),
         Instr::Setcc { cond: _, to } => rm_fits(to),
-        Instr::Extend { width } => is_wide(width),
-        Instr::Spread { width } => is_wide(width),
-        Instr::Bsf { width, to: _, from } => is_wide(width) && rm_fits(from),
-        Instr::Bsr { width, to: _, from } => is_wide(width) && rm_fits(from),
+        Instr::Extend { width } => w_bit(width),
+        Instr::Spread { width } => w_bit(width),
+        Instr::Bsf { width, to: _, from } => w_bit(width) && rm_fits(from),
+        Instr::Bsr { width, to: _, from } => w_bit(width) && rm_fits(from),
         Instr::Bswap { to: _ } => true,
         Instr::Movs {
             width: _,

@@ -1,7 +1,7 @@
 //! Which bytes spell which instruction.
 #![tactic(auto)]
 
-mod attributes;
+mod facts;
 mod fields;
 mod form_laws;
 mod fronts;
@@ -11,9 +11,13 @@ mod parts;
 mod reading;
 mod renamings;
 mod row;
+mod rows;
 mod spelling;
 
-pub use attributes::{can_half, half_in, has_operand, imm_size, key_of, prefixes_fit, width_of};
+pub use facts::{
+    can_half, half_in, has_operand, imm_size, key_of, known_fit, known_half, prefixes_fit, size_in,
+    width_of,
+};
 pub use form_laws::forms_are_right;
 pub use fronts::front_laws;
 pub use group::member;
@@ -21,7 +25,8 @@ pub use opcode_map::{ENTRIES, entry_at, opcode_map_is_right};
 pub use parts::signed;
 pub use reading::{Seen, reading_is_right};
 pub use renamings::renaming_laws;
-pub use row::{Counts, Entry, Form, Group, Row};
+pub use row::{Attributes, Counts, Entry, F3, Form, Group, ImmSize, Prefixes, RegField, Row};
+pub use rows::attributes_of;
 pub use spelling::{
     has_spelling, no_spelling_begins_another, spelled_fields_fit, spelling_is_short,
     worked_spellings,

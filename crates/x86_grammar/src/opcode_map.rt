@@ -331,7 +331,7 @@ pub static ENTRIES: [[Entry; 8]; 64] = [
 pub fn entry_at(key: u16) -> Entry
     ensures entry { result ≡ entry_of key }
 {
-    if key < 512 {
+    if key < 0x200 {
         ENTRIES[key as usize / 8][key as usize % 8]
     } else {
         Entry::Nothing
@@ -340,7 +340,7 @@ pub fn entry_at(key: u16) -> Entry
 
 /// The map has each row at its opcode and middle field, and no other row there.
 pub fn opcode_map_is_right()
-    ensures right { (key n : ℕ) (r : Row) → key < 512 → n < 8 → row_at key n ≡ Some r →
+    ensures right { (key n : ℕ) (r : Row) → key < 0x200 → n < 8 → row_at key n ≡ Some r →
         (key_of r ≡ key) × (fits_middle (middle_of r) n ≡ true) }
     ensures whole { (r : Row) (n : ℕ) → fits_middle (middle_of r) n ≡ true → row_at (key_of r) n ≡ Some r }
 {}

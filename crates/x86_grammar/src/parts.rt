@@ -8,7 +8,7 @@ pub fn signed(width: Width, byte: u8) -> u32
     ensures number { result ≡ spec.signed width byte }
 {
     let number = byte as u32;
-    if byte < 128 {
+    if byte < 0x80 {
         number
     } else {
         match width {

@@ -1,80 +1,81 @@
 use x86_types::{AluOp, Cond, Reg, Rm, ShiftOp};
 
-/// A row of the opcode map, with what the lowest bits of the opcode say. A `bool` is false for the
-/// opcode of width One. Intel SDM volume 2, appendix A.
+/// A row of the opcode map, with what the lowest bits of the opcode say, in the order of the map. A `bool` is
+/// the w bit, false for the opcode of width One. Intel SDM volume 2, appendix A. The variants are printed by
+/// tools/rows.py.
 #[derive(Clone, Copy)]
 pub enum Row {
     AluToRm(AluOp, bool),
     AluToReg(AluOp, bool),
     AluAcc(AluOp, bool),
+    IncReg(Reg),
+    DecReg(Reg),
+    PushReg(Reg),
+    PopReg(Reg),
+    PushWord,
+    ImulWord,
+    PushByte,
+    ImulByte,
+    JccShort(Cond),
     AluImm(bool),
     AluByte,
     TestRm(bool),
-    TestAcc(bool),
-    TestImm(bool),
+    Xchg(bool),
     MovToRm(bool),
     MovToReg(bool),
-    MovReg(Reg, bool),
-    MovImm(bool),
+    Lea,
+    Pop,
+    XchgAcc(Reg),
+    Nop,
+    Extend,
+    Spread,
     MovLoad(bool),
     MovStore(bool),
-    Lea,
-    IncReg(Reg),
-    DecReg(Reg),
-    Inc(bool),
-    Dec(bool),
+    Movs(bool),
+    TestAcc(bool),
+    Stos(bool),
+    MovReg(Reg, bool),
+    ShiftImm(ShiftOp, bool),
+    RetDrop,
+    Ret,
+    MovImm(bool),
+    Leave,
+    Int80,
+    ShiftOne(ShiftOp, bool),
+    ShiftCl(ShiftOp, bool),
+    CallNear,
+    JmpNear,
+    JmpShort,
+    TestImm(bool),
     Not(bool),
     Neg(bool),
     Mul(bool),
     ImulWide(bool),
     Div(bool),
     Idiv(bool),
-    Imul,
-    ImulWord,
-    ImulByte,
-    ShiftImm(ShiftOp, bool),
-    ShiftOne(ShiftOp, bool),
-    ShiftCl(ShiftOp, bool),
+    Cld,
+    Inc(bool),
+    Dec(bool),
+    CallTo,
+    JmpTo,
+    Push,
+    NopEnd,
+    NopLong,
+    Cmov(Cond),
+    JccNear(Cond),
+    Setcc(Cond),
     ShldImm,
     ShldCl,
     ShrdImm,
     ShrdCl,
-    PushReg(Reg),
-    PushWord,
-    PushByte,
-    Push,
-    PopReg(Reg),
-    Pop,
-    Xchg(bool),
-    XchgAcc(Reg),
+    Imul,
     MovzxByte,
     MovzxWord,
-    MovsxByte,
-    MovsxWord,
-    Cmov(Cond),
-    Setcc(Cond),
-    Extend,
-    Spread,
     Bsf,
     Bsr,
+    MovsxByte,
+    MovsxWord,
     BswapReg(Reg),
-    Movs(bool),
-    Stos(bool),
-    JmpShort,
-    JmpNear,
-    JmpTo,
-    CallTo,
-    JccShort(Cond),
-    JccNear(Cond),
-    CallNear,
-    Ret,
-    RetDrop,
-    Leave,
-    Int80,
-    Cld,
-    Nop,
-    NopLong,
-    NopEnd,
 }
 
 /// Rows that share their opcode and are told apart by ModRM's middle field. Intel SDM volume 2,
@@ -120,4 +121,54 @@ pub struct Form {
     pub middle: u8,
     pub rm: Option<Rm>,
     pub imm: u32,
+}
+
+/// The values of ModRM's reg field for a row: any, one alone where rows share an opcode, or none, where the
+/// opcode is another row's.
+#[derive(Clone, Copy)]
+pub enum RegField {
+    Any,
+    Is(u8),
+    Nowhere,
+}
+
+/// Whether F3 never stands before a row's opcode, may stand there, or must.
+#[derive(Clone, Copy)]
+pub enum F3 {
+    Never,
+    May,
+    Must,
+}
+
+/// Which prefixes a row knows: one 66, which makes width Two; any number of 66, which say nothing; any
+/// number of 2E; one 3E; and F3.
+#[derive(Clone, Copy)]
+pub struct Prefixes {
+    pub operand_size: bool,
+    pub any_66: bool,
+    pub any_2e: bool,
+    pub one_3e: bool,
+    pub f3: F3,
+}
+
+/// The number at the end of a row: none, of 8, 16 or 32 bits, or of the operand's width, by the w bit. Intel SDM
+/// volume 2, section 3.1.1.1 ("ib", "iw", "id").
+#[derive(Clone, Copy)]
+pub enum ImmSize {
+    NoImm,
+    Imm8,
+    Imm16,
+    Imm32,
+    ImmOperand(bool),
+}
+
+/// What is known of a row: its opcode, with 0x100 for 0F before the byte, whether ModRM stands behind it, ModRM's
+/// reg field, its prefixes, and the number at the end.
+#[derive(Clone, Copy)]
+pub struct Attributes {
+    pub opcode: u16,
+    pub modrm: bool,
+    pub reg_field: RegField,
+    pub prefixes: Prefixes,
+    pub imm: ImmSize,
 }

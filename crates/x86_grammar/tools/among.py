@@ -1,17 +1,18 @@
 #!/usr/bin/env python3
 """Writes the clauses of proofs/Among.antt, one lemma for each row of rows.py.
 
-Run it in the crate's folder, then rt fmt. Each lemma says that what the row means has the row among
+With --check it writes nothing, and ends with 1 where the file differs. Each lemma says that what the row means has the row among
 its forms: at which place of the list, by which of the helpers above the clauses, and why the
 middle field and the number are those of the form.
 """
+from generated import finish, read
 from rows import ROWS
 
 BEGIN = "-- ---- the rows, by tools/among.py\n"
 END = "-- ---- the end of the rows\n"
 BY_NAME = {row[0]: row for row in ROWS}
-NAME = {"o": "op", "s": "op", "f": "f", "r": "r", "c": "c"}
-TYPE = {"o": "AluOp", "s": "ShiftOp", "f": "Bool", "r": "Reg", "c": "Cond"}
+NAME = {"o": "op", "s": "op", "w": "w", "r": "r", "c": "c"}
+TYPE = {"o": "AluOp", "s": "ShiftOp", "w": "Bool", "r": "Reg", "c": "Cond"}
 NO_NUMBER = "(no_number v x.number)"
 MIDDLE = {"reg": "(sym (reg_again n x.middle))", "alu": "(sym (alu_again n x.middle))",
           "none": "(x.known refl)", "shift": "(middle_is (number_of_shift op) n x.suits.middle)"}
@@ -54,9 +55,9 @@ def lemma(name, clauses):
 
 
 def sized(name, kind, number):
-    base = [NAME[p] for p in BY_NAME[name][1] if p != "f"]
+    base = [NAME[p] for p in BY_NAME[name][1] if p != "w"]
     row = "(row." + name + " " + " ".join(base) + ")" if base else "row." + name
-    return (f"sized_form {row} f h p _ _ _ _ _ x.suits.half x.suits.rep "
+    return (f"sized_form {row} w h p _ _ _ _ _ x.suits.half x.suits.rep "
             f"{middle(name, kind)} {number}")
 
 
@@ -153,8 +154,8 @@ def clauses(name):
             lines += wide(name, "none", place=1, first="reg." + r)
         return lines
     if name in ("Movs", "Stos"):
-        return [clause(name, 0, f"{SAME} (ap row.{name} (full_back f h)) "
-                       f"(half_back f h x.suits.half) refl (x.known refl) {NO_NUMBER}")]
+        return [clause(name, 0, f"{SAME} (ap row.{name} (full_back w h)) "
+                       f"(half_back w h x.suits.half) refl (x.known refl) {NO_NUMBER}")]
     if name == "Ret":
         proof = f"{SAME} refl (no_half h x.suits.half) refl (x.known refl) {NO_NUMBER}"
         return [clause(name, 1, proof, rep="false"), clause(name, 2, proof, rep="true")]
@@ -162,18 +163,22 @@ def clauses(name):
         proof = fixed(name, "none", "refl")
         return [clause(name, 0, proof, number="zero"), clause(name, 0, proof, number="(suc v)")]
     if name == "Int80":
-        return tested(name, 128, "Int80", 0, "(no_rep p x.suits.rep)")
+        return tested(name, "0x80", "Int80", 0, "(no_rep p x.suits.rep)")
     if name == "NopEnd":
-        return tested(name, 251, "Nop", 2, "x.suits.rep")
+        return tested(name, "0xFB", "Nop", 2, "x.suits.rep")
     raise KeyError(name)
 
 
-if __name__ == "__main__":
+def main():
     path = "proofs/Among.antt"
-    text = open(path).read()
+    text = read(path)
     parts = [lemma(row[0], clauses(row[0])) for row in ROWS]
     parts.append("pub has_form : (r : Row) → HasForm r\n" + "".join(
         f"has_form {row_of(r[0])} = " + " ".join([r[0] + "_has"] + fields(r[0])) + "\n"
         for r in ROWS))
     body = BEGIN + "\n" + "\n".join(parts) + "\n"
-    open(path, "w").write(text[:text.index(BEGIN)] + body + text[text.index(END):])
+    finish({path: text[:text.index(BEGIN)] + body + text[text.index(END):]})
+
+
+if __name__ == "__main__":
+    main()

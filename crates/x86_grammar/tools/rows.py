@@ -1,131 +1,169 @@
 #!/usr/bin/env python3
-"""The rows of the opcode map, and the files that follow from them alone.
+"""The rows of the opcode map, in its order, and the files that follow from them alone.
 
-Run it in the crate's folder: it writes specs/Rows.antt, specs/Attributes.antt, specs/Meaning.antt,
-src/attributes.rt and proofs/Again.antt. With the word "enum" it prints the variants of Row. The map
+It writes specs/Rows.antt, specs/Meaning.antt, src/rows.rt, proofs/Again.antt and the variants of Row in src/row.rt. With
+--check it writes nothing, and ends with 1 where a file differs. The map
 itself, src/opcode_map.rt, is written by hand, and proofs/Again.antt checks it against this list.
 """
-import re
-import sys
+from generated import finish, read
 
-# name, payload (o: operation, s: shift, f: width One or not, r: register, c: condition),
-# opcode (256 for 0F before it), middle field or None, ModRM, 66, bytes of the number, meaning
+# name, payload (o: operation, s: shift, w: w bit, r: register, c: condition), opcode (0x100 for 0F before it), reg field of
+# ModRM or None, ModRM, prefixes (66: makes width Two; 66w: where w is 1; 66*, 2E*: any number; 3E: one; F3?: may stand; F3:
+# must stand), bytes of the number at the end (w: the operand's), meaning
 ROWS = [
-    ("AluToRm", "of", "8 * number_of_alu op + bit full", None, 1, "full", "0",
-     "Some (instr.Alu op (width_of full half) m (src.Reg (reg_of n)))"),
-    ("AluToReg", "of", "8 * number_of_alu op + (2 + bit full)", None, 1, "full", "0",
-     "Some (instr.Alu op (width_of full half) (rm.Reg (reg_of n)) (src_of m))"),
-    ("AluAcc", "of", "8 * number_of_alu op + (4 + bit full)", None, 0, "full", "wide",
-     "Some (instr.Alu op (width_of full half) (rm.Reg Eax) (src.Imm v))"),
-    ("AluImm", "f", "128 + bit full", None, 1, "full", "wide",
-     "Some (instr.Alu (alu_of n) (width_of full half) m (src.Imm v))"),
-    ("AluByte", "", "131", None, 1, "true", "1",
-     "Some (instr.Alu (alu_of n) (width_of true half) m (src.Imm (signed (width_of true half) v)))"),
-    ("TestRm", "f", "132 + bit full", None, 1, "full", "0",
-     "Some (instr.Test (width_of full half) m (src.Reg (reg_of n)))"),
-    ("TestAcc", "f", "168 + bit full", None, 0, "full", "wide",
-     "Some (instr.Test (width_of full half) (rm.Reg Eax) (src.Imm v))"),
-    ("TestImm", "f", "246 + bit full", 0, 1, "full", "wide",
-     "Some (instr.Test (width_of full half) m (src.Imm v))"),
-    ("MovToRm", "f", "136 + bit full", None, 1, "full", "0",
-     "Some (instr.Mov (width_of full half) m (src.Reg (reg_of n)))"),
-    ("MovToReg", "f", "138 + bit full", None, 1, "full", "0",
-     "Some (instr.Mov (width_of full half) (rm.Reg (reg_of n)) (src_of m))"),
-    ("MovReg", "rf", "176 + (8 * bit full + number_of_reg r)", None, 0, "full", "wide",
-     "Some (instr.Mov (width_of full half) (rm.Reg r) (src.Imm v))"),
-    ("MovImm", "f", "198 + bit full", 0, 1, "full", "wide",
-     "Some (instr.Mov (width_of full half) m (src.Imm v))"),
-    ("MovLoad", "f", "160 + bit full", None, 0, "full", "4",
-     "Some (instr.Mov (width_of full half) (rm.Reg Eax) (src.Mem (number_alone v)))"),
-    ("MovStore", "f", "162 + bit full", None, 0, "full", "4",
-     "Some (instr.Mov (width_of full half) (rm.Mem (number_alone v)) (src.Reg Eax))"),
-    ("Lea", "", "141", None, 1, "true", "0", "lea (width_of true half) (reg_of n) m"),
-    ("IncReg", "r", "64 + number_of_reg r", None, 0, "true", "0",
+    ("AluToRm", "ow", "8 * number_of_alu op + bit w", None, 1, "66w", "0",
+     "Some (instr.Alu op (width_of w half) m (src.Reg (reg_of n)))"),
+    ("AluToReg", "ow", "8 * number_of_alu op + (2 + bit w)", None, 1, "66w", "0",
+     "Some (instr.Alu op (width_of w half) (rm.Reg (reg_of n)) (src_of m))"),
+    ("AluAcc", "ow", "8 * number_of_alu op + (4 + bit w)", None, 0, "66w", "w",
+     "Some (instr.Alu op (width_of w half) (rm.Reg Eax) (src.Imm v))"),
+    ("IncReg", "r", "0x40 + number_of_reg r", None, 0, "66", "0",
      "Some (instr.Inc (width_of true half) (rm.Reg r))"),
-    ("DecReg", "r", "72 + number_of_reg r", None, 0, "true", "0",
+    ("DecReg", "r", "0x48 + number_of_reg r", None, 0, "66", "0",
      "Some (instr.Dec (width_of true half) (rm.Reg r))"),
-    ("Inc", "f", "254 + bit full", 0, 1, "full", "0", "Some (instr.Inc (width_of full half) m)"),
-    ("Dec", "f", "254 + bit full", 1, 1, "full", "0", "Some (instr.Dec (width_of full half) m)"),
-    ("Not", "f", "246 + bit full", 2, 1, "full", "0", "Some (instr.Not (width_of full half) m)"),
-    ("Neg", "f", "246 + bit full", 3, 1, "full", "0", "Some (instr.Neg (width_of full half) m)"),
-    ("Mul", "f", "246 + bit full", 4, 1, "full", "0", "Some (instr.Mul (width_of full half) m)"),
-    ("ImulWide", "f", "246 + bit full", 5, 1, "full", "0",
-     "Some (instr.ImulWide (width_of full half) m)"),
-    ("Div", "f", "246 + bit full", 6, 1, "full", "0", "Some (instr.Div (width_of full half) m)"),
-    ("Idiv", "f", "246 + bit full", 7, 1, "full", "0", "Some (instr.Idiv (width_of full half) m)"),
-    ("Imul", "", "431", None, 1, "true", "0",
-     "Some (instr.Imul (width_of true half) (reg_of n) m)"),
-    ("ImulWord", "", "105", None, 1, "true", "wide4",
-     "Some (instr.ImulBy (width_of true half) (reg_of n) m v)"),
-    ("ImulByte", "", "107", None, 1, "true", "1",
-     "Some (instr.ImulBy (width_of true half) (reg_of n) m (signed (width_of true half) v))"),
-    ("ShiftImm", "sf", "192 + bit full", "s", 1, "full", "1",
-     "Some (instr.Shift op (width_of full half) m (count.Imm v))"),
-    ("ShiftOne", "sf", "208 + bit full", "s", 1, "full", "0",
-     "Some (instr.Shift op (width_of full half) m (count.Imm 1))"),
-    ("ShiftCl", "sf", "210 + bit full", "s", 1, "full", "0",
-     "Some (instr.Shift op (width_of full half) m count.Cl)"),
-    ("ShldImm", "", "420", None, 1, "false", "1", "Some (instr.Shld m (reg_of n) (count.Imm v))"),
-    ("ShldCl", "", "421", None, 1, "false", "0", "Some (instr.Shld m (reg_of n) count.Cl)"),
-    ("ShrdImm", "", "428", None, 1, "false", "1", "Some (instr.Shrd m (reg_of n) (count.Imm v))"),
-    ("ShrdCl", "", "429", None, 1, "false", "0", "Some (instr.Shrd m (reg_of n) count.Cl)"),
-    ("PushReg", "r", "80 + number_of_reg r", None, 0, "false", "0",
+    ("PushReg", "r", "0x50 + number_of_reg r", None, 0, "", "0",
      "Some (instr.Push (src.Reg r))"),
-    ("PushWord", "", "104", None, 0, "false", "4", "Some (instr.Push (src.Imm v))"),
-    ("PushByte", "", "106", None, 0, "false", "1", "Some (instr.Push (src.Imm (signed Four v)))"),
-    ("Push", "", "255", 6, 1, "false", "0", "Some (instr.Push (src_of m))"),
-    ("PopReg", "r", "88 + number_of_reg r", None, 0, "false", "0", "Some (instr.Pop (rm.Reg r))"),
-    ("Pop", "", "143", 0, 1, "false", "0", "Some (instr.Pop m)"),
-    ("Xchg", "f", "134 + bit full", None, 1, "full", "0",
-     "Some (instr.Xchg (width_of full half) m (reg_of n))"),
-    ("XchgAcc", "r", "144 + number_of_reg r", "x", 0, "true", "0",
-     "Some (instr.Xchg (width_of true half) (rm.Reg Eax) r)"),
-    ("MovzxByte", "", "438", None, 1, "true", "0",
-     "Some (instr.Movzx (width_of true half) One (reg_of n) m)"),
-    ("MovzxWord", "", "439", None, 1, "false", "0", "Some (instr.Movzx Four Two (reg_of n) m)"),
-    ("MovsxByte", "", "446", None, 1, "true", "0",
-     "Some (instr.Movsx (width_of true half) One (reg_of n) m)"),
-    ("MovsxWord", "", "447", None, 1, "false", "0", "Some (instr.Movsx Four Two (reg_of n) m)"),
-    ("Cmov", "c", "320 + number_of_cond c", None, 1, "true", "0",
-     "Some (instr.Cmov c (width_of true half) (reg_of n) m)"),
-    ("Setcc", "c", "400 + number_of_cond c", 0, 1, "false", "0", "Some (instr.Setcc c m)"),
-    ("Extend", "", "152", None, 0, "true", "0", "Some (instr.Extend (width_of true half))"),
-    ("Spread", "", "153", None, 0, "true", "0", "Some (instr.Spread (width_of true half))"),
-    ("Bsf", "", "444", None, 1, "true", "0", "Some (instr.Bsf (width_of true half) (reg_of n) m)"),
-    ("Bsr", "", "445", None, 1, "true", "0", "Some (instr.Bsr (width_of true half) (reg_of n) m)"),
-    ("BswapReg", "r", "456 + number_of_reg r", None, 0, "false", "0", "Some (instr.Bswap r)"),
-    ("Movs", "f", "164 + bit full", None, 0, "full", "0",
-     "Some (instr.Movs (width_of full half) rep)"),
-    ("Stos", "f", "170 + bit full", None, 0, "full", "0",
-     "Some (instr.Stos (width_of full half) rep)"),
-    ("JmpShort", "", "235", None, 0, "false", "1", "Some (instr.Jmp (signed Four v))"),
-    ("JmpNear", "", "233", None, 0, "false", "4", "Some (instr.Jmp v)"),
-    ("JmpTo", "", "255", 4, 1, "false", "0", "Some (instr.JmpTo m)"),
-    ("CallTo", "", "255", 2, 1, "false", "0", "Some (instr.CallTo m)"),
-    ("JccShort", "c", "112 + number_of_cond c", None, 0, "false", "1",
+    ("PopReg", "r", "0x58 + number_of_reg r", None, 0, "", "0",
+     "Some (instr.Pop (rm.Reg r))"),
+    ("PushWord", "", "0x68", None, 0, "", "4",
+     "Some (instr.Push (src.Imm v))"),
+    ("ImulWord", "", "0x69", None, 1, "66", "2/4",
+     "Some (instr.ImulBy (width_of true half) (reg_of n) m v)"),
+    ("PushByte", "", "0x6A", None, 0, "", "1",
+     "Some (instr.Push (src.Imm (signed Four v)))"),
+    ("ImulByte", "", "0x6B", None, 1, "66", "1",
+     "Some (instr.ImulBy (width_of true half) (reg_of n) m (signed (width_of true half) v))"),
+    ("JccShort", "c", "0x70 + number_of_cond c", None, 0, "", "1",
      "Some (instr.Jcc c (signed Four v))"),
-    ("JccNear", "c", "384 + number_of_cond c", None, 0, "false", "4", "Some (instr.Jcc c v)"),
-    ("CallNear", "", "232", None, 0, "false", "4", "Some (instr.Call v)"),
-    ("Ret", "", "195", None, 0, "false", "0", "Some (instr.Ret 0)"),
-    ("RetDrop", "", "194", None, 0, "false", "2", "Some (instr.Ret v)"),
-    ("Leave", "", "201", None, 0, "false", "0", "Some instr.Leave"),
-    ("Int80", "", "205", None, 0, "false", "1", "if v == 128 then Some instr.Int80 else None"),
-    ("Cld", "", "252", None, 0, "false", "0", "Some instr.Cld"),
-    ("Nop", "", "144", None, 0, "false", "0", "Some instr.Nop"),
-    ("NopLong", "", "287", 0, 1, "false", "0", "Some instr.Nop"),
-    ("NopEnd", "", "286", None, 0, "false", "1", "if v == 251 then Some instr.Nop else None"),
+    ("AluImm", "w", "0x80 + bit w", None, 1, "66w", "w",
+     "Some (instr.Alu (alu_of n) (width_of w half) m (src.Imm v))"),
+    ("AluByte", "", "0x83", None, 1, "66", "1",
+     "Some (instr.Alu (alu_of n) (width_of true half) m (src.Imm (signed (width_of true half) v)))"),
+    ("TestRm", "w", "0x84 + bit w", None, 1, "66w", "0",
+     "Some (instr.Test (width_of w half) m (src.Reg (reg_of n)))"),
+    ("Xchg", "w", "0x86 + bit w", None, 1, "66w", "0",
+     "Some (instr.Xchg (width_of w half) m (reg_of n))"),
+    ("MovToRm", "w", "0x88 + bit w", None, 1, "66w", "0",
+     "Some (instr.Mov (width_of w half) m (src.Reg (reg_of n)))"),
+    ("MovToReg", "w", "0x8A + bit w", None, 1, "66w", "0",
+     "Some (instr.Mov (width_of w half) (rm.Reg (reg_of n)) (src_of m))"),
+    ("Lea", "", "0x8D", None, 1, "66 2E*", "0",
+     "lea (width_of true half) (reg_of n) m"),
+    ("Pop", "", "0x8F", 0, 1, "", "0",
+     "Some (instr.Pop m)"),
+    ("XchgAcc", "r", "0x90 + number_of_reg r", "x", 0, "66", "0",
+     "Some (instr.Xchg (width_of true half) (rm.Reg Eax) r)"),
+    ("Nop", "", "0x90", None, 0, "66*", "0",
+     "Some instr.Nop"),
+    ("Extend", "", "0x98", None, 0, "66", "0",
+     "Some (instr.Extend (width_of true half))"),
+    ("Spread", "", "0x99", None, 0, "66", "0",
+     "Some (instr.Spread (width_of true half))"),
+    ("MovLoad", "w", "0xA0 + bit w", None, 0, "66w", "4",
+     "Some (instr.Mov (width_of w half) (rm.Reg Eax) (src.Mem (number_alone v)))"),
+    ("MovStore", "w", "0xA2 + bit w", None, 0, "66w", "4",
+     "Some (instr.Mov (width_of w half) (rm.Mem (number_alone v)) (src.Reg Eax))"),
+    ("Movs", "w", "0xA4 + bit w", None, 0, "66w F3?", "0",
+     "Some (instr.Movs (width_of w half) rep)"),
+    ("TestAcc", "w", "0xA8 + bit w", None, 0, "66w", "w",
+     "Some (instr.Test (width_of w half) (rm.Reg Eax) (src.Imm v))"),
+    ("Stos", "w", "0xAA + bit w", None, 0, "66w F3?", "0",
+     "Some (instr.Stos (width_of w half) rep)"),
+    ("MovReg", "rw", "0xB0 + (8 * bit w + number_of_reg r)", None, 0, "66w", "w",
+     "Some (instr.Mov (width_of w half) (rm.Reg r) (src.Imm v))"),
+    ("ShiftImm", "sw", "0xC0 + bit w", "s", 1, "66w", "1",
+     "Some (instr.Shift op (width_of w half) m (count.Imm v))"),
+    ("RetDrop", "", "0xC2", None, 0, "", "2",
+     "Some (instr.Ret v)"),
+    ("Ret", "", "0xC3", None, 0, "F3?", "0",
+     "Some (instr.Ret 0)"),
+    ("MovImm", "w", "0xC6 + bit w", 0, 1, "66w", "w",
+     "Some (instr.Mov (width_of w half) m (src.Imm v))"),
+    ("Leave", "", "0xC9", None, 0, "", "0",
+     "Some instr.Leave"),
+    ("Int80", "", "0xCD", None, 0, "", "1",
+     "if v == 0x80 then Some instr.Int80 else None"),
+    ("ShiftOne", "sw", "0xD0 + bit w", "s", 1, "66w", "0",
+     "Some (instr.Shift op (width_of w half) m (count.Imm 1))"),
+    ("ShiftCl", "sw", "0xD2 + bit w", "s", 1, "66w", "0",
+     "Some (instr.Shift op (width_of w half) m count.Cl)"),
+    ("CallNear", "", "0xE8", None, 0, "", "4",
+     "Some (instr.Call v)"),
+    ("JmpNear", "", "0xE9", None, 0, "", "4",
+     "Some (instr.Jmp v)"),
+    ("JmpShort", "", "0xEB", None, 0, "", "1",
+     "Some (instr.Jmp (signed Four v))"),
+    ("TestImm", "w", "0xF6 + bit w", 0, 1, "66w", "w",
+     "Some (instr.Test (width_of w half) m (src.Imm v))"),
+    ("Not", "w", "0xF6 + bit w", 2, 1, "66w", "0",
+     "Some (instr.Not (width_of w half) m)"),
+    ("Neg", "w", "0xF6 + bit w", 3, 1, "66w", "0",
+     "Some (instr.Neg (width_of w half) m)"),
+    ("Mul", "w", "0xF6 + bit w", 4, 1, "66w", "0",
+     "Some (instr.Mul (width_of w half) m)"),
+    ("ImulWide", "w", "0xF6 + bit w", 5, 1, "66w", "0",
+     "Some (instr.ImulWide (width_of w half) m)"),
+    ("Div", "w", "0xF6 + bit w", 6, 1, "66w", "0",
+     "Some (instr.Div (width_of w half) m)"),
+    ("Idiv", "w", "0xF6 + bit w", 7, 1, "66w", "0",
+     "Some (instr.Idiv (width_of w half) m)"),
+    ("Cld", "", "0xFC", None, 0, "", "0",
+     "Some instr.Cld"),
+    ("Inc", "w", "0xFE + bit w", 0, 1, "66w", "0",
+     "Some (instr.Inc (width_of w half) m)"),
+    ("Dec", "w", "0xFE + bit w", 1, 1, "66w", "0",
+     "Some (instr.Dec (width_of w half) m)"),
+    ("CallTo", "", "0xFF", 2, 1, "3E", "0",
+     "Some (instr.CallTo m)"),
+    ("JmpTo", "", "0xFF", 4, 1, "3E", "0",
+     "Some (instr.JmpTo m)"),
+    ("Push", "", "0xFF", 6, 1, "", "0",
+     "Some (instr.Push (src_of m))"),
+    ("NopEnd", "", "0x11E", None, 0, "F3", "1",
+     "if v == 0xFB then Some instr.Nop else None"),
+    ("NopLong", "", "0x11F", 0, 1, "66* 2E*", "0",
+     "Some instr.Nop"),
+    ("Cmov", "c", "0x140 + number_of_cond c", None, 1, "66", "0",
+     "Some (instr.Cmov c (width_of true half) (reg_of n) m)"),
+    ("JccNear", "c", "0x180 + number_of_cond c", None, 0, "", "4",
+     "Some (instr.Jcc c v)"),
+    ("Setcc", "c", "0x190 + number_of_cond c", 0, 1, "", "0",
+     "Some (instr.Setcc c m)"),
+    ("ShldImm", "", "0x1A4", None, 1, "", "1",
+     "Some (instr.Shld m (reg_of n) (count.Imm v))"),
+    ("ShldCl", "", "0x1A5", None, 1, "", "0",
+     "Some (instr.Shld m (reg_of n) count.Cl)"),
+    ("ShrdImm", "", "0x1AC", None, 1, "", "1",
+     "Some (instr.Shrd m (reg_of n) (count.Imm v))"),
+    ("ShrdCl", "", "0x1AD", None, 1, "", "0",
+     "Some (instr.Shrd m (reg_of n) count.Cl)"),
+    ("Imul", "", "0x1AF", None, 1, "66", "0",
+     "Some (instr.Imul (width_of true half) (reg_of n) m)"),
+    ("MovzxByte", "", "0x1B6", None, 1, "66", "0",
+     "Some (instr.Movzx (width_of true half) One (reg_of n) m)"),
+    ("MovzxWord", "", "0x1B7", None, 1, "", "0",
+     "Some (instr.Movzx Four Two (reg_of n) m)"),
+    ("Bsf", "", "0x1BC", None, 1, "66", "0",
+     "Some (instr.Bsf (width_of true half) (reg_of n) m)"),
+    ("Bsr", "", "0x1BD", None, 1, "66", "0",
+     "Some (instr.Bsr (width_of true half) (reg_of n) m)"),
+    ("MovsxByte", "", "0x1BE", None, 1, "66", "0",
+     "Some (instr.Movsx (width_of true half) One (reg_of n) m)"),
+    ("MovsxWord", "", "0x1BF", None, 1, "", "0",
+     "Some (instr.Movsx Four Two (reg_of n) m)"),
+    ("BswapReg", "r", "0x1C8 + number_of_reg r", None, 0, "", "0",
+     "Some (instr.Bswap r)"),
 ]
 
-NAMES = {"o": "op", "s": "op", "f": "full", "r": "r", "c": "c"}
-TYPES = {"o": "AluOp", "s": "ShiftOp", "f": "bool", "r": "Reg", "c": "Cond"}
+NAMES = {"o": "op", "s": "op", "w": "w", "r": "r", "c": "c"}
+TYPES = {"o": "AluOp", "s": "ShiftOp", "w": "bool", "r": "Reg", "c": "Cond"}
 VALUES = {
     "o": ["alu." + x for x in "Add Or Adc Sbb And Sub Xor Cmp".split()],
     "s": ["shift." + x for x in "Rol Ror Shl Shr Sar".split()],
-    "f": ["false", "true"],
+    "w": ["false", "true"],
     "r": ["reg." + x for x in "Eax Ecx Edx Ebx Esp Ebp Esi Edi".split()],
     "c": ["cond." + x for x in "O No B Ae E Ne Be A S Ns P Np L Ge Le G".split()],
 }
-SHIFTS = {"shift.Rol": 0, "shift.Ror": 1, "shift.Shl": 4, "shift.Shr": 5, "shift.Sar": 7}
 
 
 def pattern(row, values=None):
@@ -141,97 +179,171 @@ def rust_enum():
     return "\n".join(lines)
 
 
-ROWS_HEAD = """-- The opcode of each row, its middle field, and whether ModRM stands. The opcode is a number: 256 stands
--- for 0F before the byte. Intel SDM volume 2, appendix A, tables A-2, A-3 and A-6.
+# ---- the facts of a row
+
+# the prefixes of a row, as a word of specs/Rows with its argument
+PREFIXES = {"": ("no_prefix", ""), "66": ("sized", "true"), "66w": ("sized", "w"), "66*": ("any_66", ""),
+            "66* 2E*": ("any_66_2e", ""), "66 2E*": ("sized_2e", ""), "3E": ("one_3e", ""),
+            "F3?": ("may_f3", "false"), "66w F3?": ("may_f3", "w"), "F3": ("must_f3", "")}
+
+
+def spec_prefixes(row):
+    word, argument = PREFIXES[row[5]]
+    return f"({word} {argument})" if argument else word
+
+
+def rust_prefixes(row):
+    word, argument = PREFIXES[row[5]]
+    return f"{word}({argument})"
+
+
+def spec_reg_field(row):
+    if row[3] is None:
+        return "Any"
+    return {"s": "(Is (number_of_shift op))", "x": "(not_eax r)"}.get(row[3], f"(Is {row[3]})")
+
+
+def rust_reg_field(row):
+    if row[3] is None:
+        return "Any"
+    return {"s": "Is(shift_number(op))", "x": "not_eax(reg)"}.get(row[3], f"Is({row[3]})")
+
+
+# a fixed number of bytes at the end
+IMM = {"0": "NoImm", "1": "Imm8", "2": "Imm16", "4": "Imm32"}
+
+
+def spec_imm(row):
+    return {"w": "(ImmOperand w)", "2/4": "(ImmOperand true)"}.get(row[6]) or IMM[row[6]]
+
+
+def rust_imm(row):
+    return {"w": "ImmOperand(w)", "2/4": "ImmOperand(true)"}.get(row[6]) or IMM[row[6]]
+
+
+ROWS_HEAD = """-- Written by tools/rows.py.
+-- The facts of each row, a line each in the order of the opcode map: opcode, ModRM with its reg field, prefixes, and the number at
+-- the end. Intel SDM volume 2, section 2.1.1, appendix A, tables A-2, A-3 and A-6, and the pages that
+-- Forms names; which prefixes may stand is this project's own rule.
 use Rattle.std.specs.Prelude.{ℕ, ◌+◌, ◌*◌, Bool, true, false, ◌==◌}
+use Rattle.x86_types.specs.declared.operand.Reg.{Reg}
 use Rattle.x86_types.specs.declared.operand.Reg.TheVariants as reg
 use Rattle.x86_types.specs.Numbers.{number_of_reg, number_of_alu, number_of_shift, number_of_cond}
 use Rattle.x86_grammar.specs.declared.row.Row.{Row}
 use Rattle.x86_grammar.specs.declared.row.Row.TheVariants as row
+use Rattle.x86_grammar.specs.declared.row.Attributes.{Attributes}
+use Rattle.x86_grammar.specs.declared.row.F3.{F3}
+use Rattle.x86_grammar.specs.declared.row.F3.TheVariants.{Never, May, Must}
+use Rattle.x86_grammar.specs.declared.row.ImmSize.{ImmSize}
+use Rattle.x86_grammar.specs.declared.row.ImmSize.TheVariants.{NoImm, Imm8, Imm16, Imm32, ImmOperand}
+use Rattle.x86_grammar.specs.declared.row.Prefixes.{Prefixes}
+use Rattle.x86_grammar.specs.declared.row.RegField.{RegField}
+use Rattle.x86_grammar.specs.declared.row.RegField.TheVariants.{Any, Is, Nowhere}
 
+-- a truth value as a bit
 abbrev pub bit : Bool → ℕ
 bit false = 0
 bit true = 1
+
+-- which prefixes a row knows: one 66 that makes width Two, any number of 66, any number of 2E, one 3E, and F3
+abbrev pub known : Bool → Bool → Bool → Bool → F3 → Prefixes
+known size a66 a2e o3e f = record { operand_size = size; any_66 = a66; any_2e = a2e; one_3e = o3e; f3 = f }
+
+-- none
+abbrev pub no_prefix : Prefixes
+no_prefix = known false false false false Never
+
+-- one 66, where the w bit is 1
+abbrev pub sized : Bool → Prefixes
+sized w = known w false false false Never
+
+-- one 66 and any number of 2E
+abbrev pub sized_2e : Prefixes
+sized_2e = known true false true false Never
+
+-- any number of 66
+abbrev pub any_66 : Prefixes
+any_66 = known false true false false Never
+
+-- any number of 66 and of 2E
+abbrev pub any_66_2e : Prefixes
+any_66_2e = known false true true false Never
+
+-- one 3E
+abbrev pub one_3e : Prefixes
+one_3e = known false false false true Never
+
+-- F3, and one 66 where the w bit is 1
+abbrev pub may_f3 : Bool → Prefixes
+may_f3 w = known w false false false May
+
+-- F3, without which the row isn't there
+abbrev pub must_f3 : Prefixes
+must_f3 = known false false false false Must
+
+-- 90 is no exchange
+abbrev pub not_eax : Reg → RegField
+not_eax reg.Eax = Nowhere
+not_eax _ = Any
+
+-- a row with ModRM
+abbrev pub modrm : ℕ → RegField → Prefixes → ImmSize → Attributes
+modrm o n p i = record { opcode = o; modrm = true; reg_field = n; prefixes = p; imm = i }
+
+-- a row without ModRM
+abbrev pub alone : ℕ → RegField → Prefixes → ImmSize → Attributes
+alone o n p i = record { opcode = o; modrm = false; reg_field = n; prefixes = p; imm = i }
+
+-- in an opcode 0x100 stands for 0F before the byte
+abbrev pub attributes_of : Row → Attributes
+"""
+
+ROWS_END = """
+-- the row's opcode
+abbrev pub key_of : Row → ℕ
+key_of r = (attributes_of r).opcode
+
+-- the values of ModRM's reg field
+abbrev pub middle_of : Row → RegField
+middle_of r = (attributes_of r).reg_field
+
+-- whether a reg field is one of them
+abbrev pub fits_middle : RegField → ℕ → Bool
+fits_middle Any n = true
+fits_middle (Is m) n = m == n
+fits_middle Nowhere n = false
+
+-- whether ModRM stands behind the opcode
+abbrev pub has_operand : Row → Bool
+has_operand r = (attributes_of r).modrm
 """
 
 
 def rows_spec():
-    out = [ROWS_HEAD, "abbrev pub key_of : Row → ℕ"]
-    out += [f"key_of {pattern(r)} = {r[2]}" for r in ROWS]
-    out += ["", "-- the middle field of ModRM: any, one alone where rows share an opcode, or none at all",
-            "pub data Middle : Type 0 where", "  Any : Middle", "  Is : ℕ → Middle",
-            "  Nowhere : Middle", "", "abbrev pub middle_of : Row → Middle"]
+    lines = []
     for r in ROWS:
-        if r[3] == "s":
-            out.append(f"middle_of {pattern(r)} = Is (number_of_shift op)")
-        elif r[3] == "x":
-            out.append("middle_of (row.XchgAcc reg.Eax) = Nowhere")
-        elif r[3] is not None:
-            out.append(f"middle_of {pattern(r)} = Is {r[3]}")
-    out += ["middle_of _ = Any", "", "abbrev pub fits_middle : Middle → ℕ → Bool",
-            "fits_middle Any n = true", "fits_middle (Is m) n = m == n",
-            "fits_middle Nowhere n = false", "", "-- whether ModRM stands behind it",
-            "abbrev pub has_operand : Row → Bool"]
-    out += [f"has_operand {pattern(r)} = true" for r in ROWS if r[4]]
-    return "\n".join(out + ["has_operand _ = false", ""])
+        word = "modrm" if r[4] else "alone"
+        opcode = r[2] if " " not in r[2] else f"({r[2]})"
+        lines.append(f"attributes_of {pattern(r)} = {word} {opcode} {spec_reg_field(r)} {spec_prefixes(r)} {spec_imm(r)}")
+    return ROWS_HEAD + "\n".join(lines) + "\n" + ROWS_END
 
 
-ATTRIBUTES_HEAD = """-- Which prefixes a row knows, its width, and how long its number is. Intel SDM volume 2, section 2.1.1 and
--- the pages that Forms names; which prefixes may stand is this project's own rule.
-use Rattle.std.specs.Prelude.{ℕ, Bool, true, false, not}
-use Rattle.x86_types.specs.declared.width.Width.{Width}
-use Rattle.x86_types.specs.declared.width.Width.TheVariants.{One, Two, Four}
-use Rattle.x86_types.specs.Numbers.{size_of}
-use Rattle.x86_grammar.specs.declared.row.Row.{Row}
-use Rattle.x86_grammar.specs.declared.row.Row.TheVariants as row
-
--- the width of an opcode
-abbrev pub width_of : Bool → Bool → Width
-width_of false half = One
-width_of true true = Two
-width_of true false = Four
-
-abbrev pub wide_size : Bool → Bool → ℕ
-wide_size full half = size_of (width_of full half)
-"""
-
-
-def attributes_spec():
-    out = [ATTRIBUTES_HEAD, "-- where one 66 makes width Two", "abbrev pub can_half : Row → Bool"]
-    out += [f"can_half {pattern(r)} = {r[5]}" for r in ROWS if r[5] != "false"]
-    out += ["can_half _ = false", "", "-- the bytes of the number at the end",
-            "abbrev pub imm_size : Row → Bool → ℕ"]
-    size = {"wide": "wide_size full half", "wide4": "wide_size true half"}
-    out += [f"imm_size {pattern(r)} half = {size.get(r[6], r[6])}" for r in ROWS if r[6] != "0"]
-    out += ["imm_size _ half = 0", "", "-- where any number of 66 may stand, and says nothing",
-            "abbrev pub any_halves : Row → Bool", "any_halves row.Nop = true",
-            "any_halves row.NopLong = true", "any_halves _ = false", "",
-            "-- where any number of 2E may stand", "abbrev pub any_segments : Row → Bool",
-            "any_segments row.Lea = true", "any_segments row.NopLong = true",
-            "any_segments _ = false", "", "-- where one 3E may stand",
-            "abbrev pub can_hint : Row → Bool", "can_hint row.JmpTo = true",
-            "can_hint row.CallTo = true", "can_hint _ = false", "",
-            "-- whether F3 may, and whether it must stand there",
-            "abbrev pub rep_fits : Row → Bool → Bool", "rep_fits row.Ret rep = true",
-            "rep_fits (row.Movs full) rep = true", "rep_fits (row.Stos full) rep = true",
-            "rep_fits row.NopEnd rep = rep", "rep_fits _ rep = not rep", ""]
-    return "\n".join(out)
-
-
-ATTRIBUTES_CODE_HEAD = """ghost use Rattle.std.specs.Prelude.{◌≡◌, ◌<◌, ◌≤◌};
+ROWS_CODE_HEAD = """// Written by tools/rows.py.
+// The facts of each row, a line each in the order of the opcode map.
+ghost use Rattle.std.specs.Prelude.{◌≡◌, ◌<◌};
 ghost use Rattle.x86_types.specs.Numbers.{number_of_alu, number_of_cond, number_of_reg};
-ghost use Rattle.x86_grammar.specs.Attributes as spec;
-ghost use Rattle.x86_grammar.specs.Rows as rows;
-ghost use Rattle.x86_grammar.specs.Spells as spells;
+ghost use Rattle.x86_grammar.specs.Rows as spec;
 
-use crate::row::{Counts, Row};
-use x86_types::{AluOp, Cond, Reg, Width, alu_number, cond_number, reg_number};
+use crate::row::ImmSize::{Imm8, Imm16, Imm32, ImmOperand, NoImm};
+use crate::row::RegField::{Any, Is, Nowhere};
+use crate::row::{Attributes, F3, ImmSize, Prefixes, RegField, Row};
+use x86_types::{AluOp, Cond, Reg, alu_number, cond_number, reg_number, shift_number};
 
-fn bit(full: bool) -> u16
-    ensures number { result ≡ rows.bit full }
+fn bit(w: bool) -> u16
+    ensures number { result ≡ spec.bit w }
     ensures small { result < 2 }
 {
-    if full { 1 } else { 0 }
+    if w { 1 } else { 0 }
 }
 
 fn alu_bits(op: AluOp) -> u16
@@ -255,120 +367,138 @@ fn cond_bits(cond: Cond) -> u16
     cond_number(cond) as u16
 }
 
-/// The row's opcode; 256 stands for 0F before the byte.
-pub fn key_of(row: Row) -> u16
-    ensures key { result ≡ rows.key_of row }
-    ensures small { result < 512 }
+fn known(operand_size: bool, any_66: bool, any_2e: bool, one_3e: bool, f3: F3) -> Prefixes
+    ensures { result ≡ spec.known operand_size any_66 any_2e one_3e f3 }
+{
+    Prefixes {
+        operand_size,
+        any_66,
+        any_2e,
+        one_3e,
+        f3,
+    }
+}
+
+fn no_prefix() -> Prefixes
+    ensures { result ≡ spec.no_prefix }
+{
+    known(false, false, false, false, F3::Never)
+}
+
+fn sized(w: bool) -> Prefixes
+    ensures { result ≡ spec.sized w }
+{
+    known(w, false, false, false, F3::Never)
+}
+
+fn sized_2e() -> Prefixes
+    ensures { result ≡ spec.sized_2e }
+{
+    known(true, false, true, false, F3::Never)
+}
+
+fn any_66() -> Prefixes
+    ensures { result ≡ spec.any_66 }
+{
+    known(false, true, false, false, F3::Never)
+}
+
+fn any_66_2e() -> Prefixes
+    ensures { result ≡ spec.any_66_2e }
+{
+    known(false, true, true, false, F3::Never)
+}
+
+fn one_3e() -> Prefixes
+    ensures { result ≡ spec.one_3e }
+{
+    known(false, false, false, true, F3::Never)
+}
+
+fn may_f3(w: bool) -> Prefixes
+    ensures { result ≡ spec.may_f3 w }
+{
+    known(w, false, false, false, F3::May)
+}
+
+fn must_f3() -> Prefixes
+    ensures { result ≡ spec.must_f3 }
+{
+    known(false, false, false, false, F3::Must)
+}
+
+fn not_eax(reg: Reg) -> RegField
+    ensures { result ≡ spec.not_eax reg }
+{
+    match reg {
+        Reg::Eax => Nowhere,
+        Reg::Ecx => Any,
+        Reg::Edx => Any,
+        Reg::Ebx => Any,
+        Reg::Esp => Any,
+        Reg::Ebp => Any,
+        Reg::Esi => Any,
+        Reg::Edi => Any,
+    }
+}
+
+fn modrm(opcode: u16, reg_field: RegField, prefixes: Prefixes, imm: ImmSize) -> Attributes
+    ensures { result ≡ spec.modrm opcode reg_field prefixes imm }
+{
+    Attributes {
+        opcode,
+        modrm: true,
+        reg_field,
+        prefixes,
+        imm,
+    }
+}
+
+fn alone(opcode: u16, reg_field: RegField, prefixes: Prefixes, imm: ImmSize) -> Attributes
+    ensures { result ≡ spec.alone opcode reg_field prefixes imm }
+{
+    Attributes {
+        opcode,
+        modrm: false,
+        reg_field,
+        prefixes,
+        imm,
+    }
+}
+
+/// The facts of a row. In its opcode 0x100 stands for 0F before the byte.
+pub fn attributes_of(row: Row) -> Attributes
+    ensures attributes { result ≡ spec.attributes_of row }
+    ensures small { result.opcode < 0x200 }
 {
     match row {
 """
 
-ATTRIBUTES_CODE_REST = """
-fn any_halves(row: Row) -> bool
-    ensures { result ≡ spec.any_halves row }
-{
-    match row {
-        Row::Nop => true,
-        Row::NopLong => true,
-        _ => false,
-    }
-}
-
-fn any_segments(row: Row) -> bool
-    ensures { result ≡ spec.any_segments row }
-{
-    match row {
-        Row::Lea => true,
-        Row::NopLong => true,
-        _ => false,
-    }
-}
-
-fn can_hint(row: Row) -> bool
-    ensures { result ≡ spec.can_hint row }
-{
-    match row {
-        Row::JmpTo => true,
-        Row::CallTo => true,
-        _ => false,
-    }
-}
-
-fn rep_fits(row: Row, rep: bool) -> bool
-    ensures { result ≡ spec.rep_fits row rep }
-{
-    match row {
-        Row::Ret => true,
-        Row::Movs(_) => true,
-        Row::Stos(_) => true,
-        Row::NopEnd => rep,
-        _ => !rep,
-    }
-}
-
-/// Whether 66 makes width Two: exactly one stands, and the row knows it.
-pub fn half_in(row: Row, counts: Counts) -> bool
-    ensures { result ≡ spells.half_in row counts }
-{
-    counts.halves == 1 && can_half(row)
-}
-
-/// Whether the prefixes are those that the row knows.
-pub fn prefixes_fit(row: Row, counts: Counts) -> bool
-    ensures { result ≡ spells.prefixes_fit row counts }
-{
-    (counts.halves == 0 || (counts.halves == 1 && can_half(row)) || any_halves(row))
-        && (counts.segments == 0 || any_segments(row))
-        && (counts.hints == 0 || (counts.hints == 1 && can_hint(row)))
-        && counts.repeats < 2
-        && rep_fits(row, counts.repeats == 1)
-}
-"""
-
-RUST_NAMES = {"o": "op", "s": "op", "f": "full", "r": "reg", "c": "cond"}
+RUST_NAMES = {"o": "op", "s": "op", "w": "w", "r": "reg", "c": "cond"}
 
 
-def rust_pattern(row, used):
-    """The row's pattern in Rust, naming the payload of those kinds alone."""
-    names = [RUST_NAMES[p] if p in used else "_" for p in row[1]]
+def rust_pattern(row):
+    names = [RUST_NAMES[p] for p in row[1]]
     return "Row::" + row[0] + (f"({', '.join(names)})" if names else "")
 
 
-def rust_key(row):
-    answer = re.sub(r"number_of_(\w+) \w+", lambda m: m[1] + "_bits(" + m[1] + ")", row[2])
-    return answer.replace("alu_bits(alu)", "alu_bits(op)").replace("bit full", "bit(full)")
+def rust_opcode(row):
+    answer = row[2].replace("bit w", "bit(w)")
+    for kind, name in (("alu op", "op"), ("reg r", "reg"), ("cond c", "cond")):
+        answer = answer.replace("number_of_" + kind, kind.split()[0] + f"_bits({name})")
+    return answer
 
 
-def attributes_code():
-    out = [ATTRIBUTES_CODE_HEAD.rstrip("\n")]
-    out += [f"        {rust_pattern(r, r[1].replace('s', ''))} => {rust_key(r)}," for r in ROWS]
-    out += ["    }", "}", "", "/// Whether ModRM stands behind the row's opcode.",
-            "pub fn has_operand(row: Row) -> bool",
-            "    ensures { result ≡ rows.has_operand row }", "{", "    match row {"]
-    out += [f"        {rust_pattern(r, '')} => {'true' if r[4] else 'false'}," for r in ROWS]
-    out += ["    }", "}", "", "/// Whether one 66 makes width Two.",
-            "pub fn can_half(row: Row) -> bool",
-            "    ensures { result ≡ spec.can_half row }", "{", "    match row {"]
-    out += [f"        {rust_pattern(r, 'f' if r[5] == 'full' else '')} => {r[5]}," for r in ROWS]
-    size = {"wide": "wide_size(full, half)", "wide4": "wide_size(true, half)"}
-    out += ["    }", "}", "", "/// The width of an opcode: One where it isn't full, else Two behind 66 and Four without.",
-            "pub fn width_of(full: bool, half: bool) -> Width",
-            "    ensures { result ≡ spec.width_of full half }", "{",
-            "    match (full, half) {", "        (false, _) => Width::One,",
-            "        (true, true) => Width::Two,", "        (true, false) => Width::Four,",
-            "    }", "}", "", "fn wide_size(full: bool, half: bool) -> u8",
-            "    ensures size { result ≡ spec.wide_size full half }",
-            "    ensures few { result ≤ 4 }", "{", "    width_of(full, half).size()", "}", "",
-            "/// The bytes of the number at the row's end: none, one, two or four.",
-            "pub fn imm_size(row: Row, half: bool) -> u8",
-            "    ensures size { result ≡ spec.imm_size row half }",
-            "    ensures few { result ≤ 4 }", "{", "    match row {"]
-    out += [f"        {rust_pattern(r, 'f' if r[6] == 'wide' else '')} => {size.get(r[6], r[6])},"
-            for r in ROWS]
-    return "\n".join(out + ["    }", "}", ATTRIBUTES_CODE_REST])
+def rows_code():
+    lines = []
+    for r in ROWS:
+        word = "modrm" if r[4] else "alone"
+        lines.append(f"        {rust_pattern(r)} => {word}({rust_opcode(r)}, {rust_reg_field(r)}, {rust_prefixes(r)}, {rust_imm(r)}),")
+    return ROWS_CODE_HEAD + "\n".join(lines) + "\n    }\n}\n"
 
 
-MEANING_HEAD = """-- What the parts of a spelling mean: the row, whether 66 makes width Two, whether F3 stands, ModRM's
+MEANING_HEAD = """-- Written by tools/rows.py.
+-- What the parts of a spelling mean: the row, whether 66 makes width Two, whether F3 stands, ModRM's
 -- middle field, its operand, and the number at the end.
 use Rattle.std.specs.Prelude.{ℕ, Bool, true, Option, Some, None, if◌then◌else◌, ◌==◌}
 use Rattle.x86_types.specs.declared.operand.Reg.{Reg}
@@ -389,6 +519,7 @@ use Rattle.x86_grammar.specs.declared.row.Row.TheVariants as row
 use Rattle.x86_grammar.specs.Attributes.{width_of}
 use Rattle.x86_grammar.specs.Parts.{signed}
 
+-- an operand as a source
 abbrev pub src_of : Rm → Src
 src_of (rm.Reg r) = src.Reg r
 src_of (rm.Mem a) = src.Mem a
@@ -398,9 +529,11 @@ abbrev pub lea : Width → Reg → Rm → Option Instr
 lea w to (rm.Reg r) = None
 lea w to (rm.Mem a) = Some (instr.Lea w to a)
 
+-- an address without base and index
 abbrev pub number_alone : ℕ → Address
 number_alone d = record { base = None; index = None; scale = 1; disp = d }
 
+-- the instruction of a row with those parts
 abbrev pub build : Row → Bool → Bool → ℕ → Rm → ℕ → Option Instr
 """
 
@@ -410,7 +543,8 @@ def meaning_spec():
         f"build {pattern(r)} half rep n m v = {r[7]}" for r in ROWS) + "\n"
 
 
-AGAIN_HEAD = """-- The map gives each row at its opcode.
+AGAIN_HEAD = """-- Written by tools/rows.py.
+-- The map gives each row at its opcode.
 use Rattle.std.proofs.Common.{◌≡◌, ℕ, Some, true, false, refl}
 use Rattle.std.proofs.lemmas.Bool.{eqb-true, false≢true}
 use Rattle.x86_types.specs.declared.operand.Reg.TheVariants as reg
@@ -443,12 +577,18 @@ def again_proof():
     return AGAIN_HEAD + "\n".join(out) + "\n"
 
 
+def row_code():
+    """src/row.rt with the variants of Row in the order of the list."""
+    text = read("src/row.rt")
+    begin = text.index("pub enum Row {\n") + len("pub enum Row {\n")
+    return text[:begin] + rust_enum() + "\n" + text[text.index("}\n", begin):]
+
+
 if __name__ == "__main__":
-    if sys.argv[1:] == ["enum"]:
-        print(rust_enum())
-    else:
-        open("specs/Rows.antt", "w").write(rows_spec())
-        open("specs/Attributes.antt", "w").write(attributes_spec())
-        open("specs/Meaning.antt", "w").write(meaning_spec())
-        open("src/attributes.rt", "w").write(attributes_code())
-        open("proofs/Again.antt", "w").write(again_proof())
+    finish({
+        "specs/Rows.antt": rows_spec(),
+        "specs/Meaning.antt": meaning_spec(),
+        "src/row.rt": row_code(),
+        "src/rows.rt": rows_code(),
+        "proofs/Again.antt": again_proof(),
+    })

@@ -1,10 +1,15 @@
 #!/usr/bin/env python3
 """Writes the worked rows of specs/Worked.antt and proofs/Worked.antt.
 
-Run it in the crate's folder, then rt fmt. A spelling is written as prefixes, opcode, ModRM with
-what follows it, and number, with a bar between; then the instruction, and the place of the form
-in its list. The rows were read off the manual's pages.
+With --check it writes nothing, and ends with 1 where a file differs. A spelling is written as prefixes, opcode, ModRM with
+what follows it, and number, with a bar between; then the instruction, and the place of the form in
+its list. The rows were read off the manual's pages.
 """
+import os
+import sys
+
+sys.path.insert(0, os.path.dirname(os.path.abspath(__file__)))
+from generated import finish, read  # noqa: E402
 
 SPELLED = [
     # Alu
@@ -198,7 +203,7 @@ def operand(parts):
         return 0, 0, 0
     rest = parts[1:]
     sib = 0
-    if parts[0] < 192 and parts[0] % 8 == 4:
+    if parts[0] < 0xC0 and parts[0] % 8 == 4:
         sib, rest = rest[0], rest[1:]
     return parts[0], sib, sum(byte << (8 * at) for at, byte in enumerate(rest))
 
@@ -227,9 +232,9 @@ def unspelled(name, proof, rows):
                + proof.format(name=f"{name}_{at}", bytes=bytes_))
 
 
-def table(name, type_, rows):
+def table(comment, name, type_, rows):
     lines = " ∷\n    ".join(rows + ["[]"])
-    return f"abbrev pub {name} : {type_}\n{name} =\n    {lines}\n"
+    return f"-- {comment}\nabbrev pub {name} : {type_}\n{name} =\n    {lines}\n"
 
 
 def all_of(*tables):
@@ -247,9 +252,9 @@ def rewrite(text, begin, end, body):
     return text[:text.index(begin) + len(begin)] + "\n" + body + "\n" + text[text.index(end):]
 
 
-def main():
+def proofs():
     path = "proofs/Worked.antt"
-    text = open(path).read()
+    text = read(path)
     text = rewrite(text, "-- ---- what is spelled, by tools/worked.py\n",
                    "-- ---- reading in vain\n",
                    "\n".join(spelled(at, row) for at, row in enumerate(SPELLED)))
@@ -265,24 +270,29 @@ all_spelled = {all_of(("spelled", SPELLED))}
 pub none_spelled_there : NoneSpelled
 none_spelled_there = {all_of(("nothing", NOTHING), ("too_long", TOO_LONG))}
 """
-    open(path, "w").write(text)
+    return {path: text}
+
+
+def tables():
     rows = [f"({listed(numbers(text.replace('|', ' ')))}, instr.{instr})" for text, instr, _ in SPELLED]
     vain = [f"({listed(numbers(text))})" for text, _ in NOTHING + TOO_LONG]
     path = "specs/Worked.antt"
-    text = open(path).read()
+    text = read(path)
     begin = "-- ---- the tables, by tools/worked.py\n"
     text = text[:text.index(begin) + len(begin)]
-    text += "\n" + table("worked", "List (List ℕ × Instr)", rows)
-    text += "\n" + table("in_vain", "List (List ℕ)", vain)
+    text += "\n" + table("bytes with the instruction that they spell", "worked", "List (List ℕ × Instr)", rows)
+    text += "\n" + table("bytes that spell nothing", "in_vain", "List (List ℕ)", vain)
     text += """
+-- each row's bytes spell its instruction
 abbrev pub AllSpelled : Type 0
 AllSpelled = AllByRecursion (λ (row : List ℕ × Instr). Spells row.0 row.1) worked
 
+-- each row's bytes spell nothing
 abbrev pub NoneSpelled : Type 0
 NoneSpelled = AllByRecursion (λ (bytes : List ℕ). (i : Instr) → Spells bytes i → ⊥) in_vain
 """
-    open(path, "w").write(text)
+    return {path: text}
 
 
 if __name__ == "__main__":
-    main()
+    finish({**proofs(), **tables()})
