@@ -45,7 +45,7 @@ pub record Laws : Type 0 where
   pub reg_again : (r : Reg) → reg_of (number_of_reg r) ≡ r
   pub number_again : (n : ℕ) → n < 8 → number_of_reg (reg_of n) ≡ n
 
-all_at : (i : Instr) → forms_at false i ≡ forms i
+pub all_at : (i : Instr) → forms_at false i ≡ forms i
 all_at (instr.Jmp by) = refl
 all_at (instr.Jcc c by) = refl
 all_at i = refl
@@ -104,7 +104,7 @@ pub record InBoth (f : Form) (i : Instr) : Type 0 where
   pub among : In f (forms i)
   pub long : is_short f.row ≡ false
 
-wide_in : FormsAreRight → (i : Instr) (f : Form) → In f (forms_at true i) → InBoth f i
+pub wide_in : FormsAreRight → (i : Instr) (f : Form) → In f (forms_at true i) → InBoth f i
 wide_in right (instr.Jmp by) f (inl h) = record { among = inl h; long = long_row f _ h refl }
 wide_in right (instr.Jmp by) f (inr h) = absurd h
 wide_in right (instr.Jcc c by) f (inl h) = record { among = inl h; long = long_row f _ h refl }
@@ -126,7 +126,7 @@ in_wide (instr.Jcc c by) f (inl h) e = inl h
 in_wide (instr.Jcc c by) f (inr h) e = absurd (no_short _ f _ h refl e)
 in_wide i f h e = h
 
-some_wide : (i : Instr) (f : Form) → In f (forms i) → (g : Form) × (In g (forms_at true i))
+pub some_wide : (i : Instr) (f : Form) → In f (forms i) → (g : Form) × (In g (forms_at true i))
 some_wide (instr.Jmp by) f h = (plain row.JmpNear Four by, inl refl)
 some_wide (instr.Jcc c by) f h = (plain (row.JccNear c) Four by, inl refl)
 some_wide i f h = (f, h)

@@ -1,6 +1,5 @@
 -- The order of lists of bytes, and the least of several.
 use Rattle.std.proofs.Common.{◌≡◌, ℕ, ◌<◌, ◌≤◌, Bool, true, false, ltb, eqb, ◌&&◌, ◌||◌, List, [], ◌∷◌, ◌++◌, length, take, refl, sym, subst, ◌∙◌, inl, inr, ◌⊎◌, arith, length-append}
-use Rattle.std.proofs.lemmas.List.{length-take-le}
 use Rattle.std.proofs.lemmas.Bool.{cases_lt, cond_both, lt-ltb, le-ltb, eq-eqb, ltb-true, eqb-true, false≢true}
 use Rattle.x86_grammar.specs.declared.row.Form.{Form}
 use Rattle.x86_grammar.specs.Forms.{In}
@@ -186,8 +185,3 @@ picks_one a (f ∷ fs) =
 pub joined : (a : List ℕ) (fs gs : List Form) → picks a (fs ++ gs) ≡ picks (picks a fs) gs
 joined a [] gs = refl
 joined a (f ∷ fs) gs = joined (lesser a (form_best f)) fs gs
-
--- ---- a front
-
-pub front_short : (n : ℕ) (xs : List ℕ) → n ≤ length xs → length (take n xs) ≤ 15 → n ≤ 15
-front_short n xs h s = let l = length-take-le n xs h in omega arith

@@ -40,3 +40,15 @@ abbrev pub forms_at : Bool → Instr → List Form
 forms_at wide (instr.Jmp by) = plain row.JmpNear Four by ∷ unless wide (if_signed Four by (λ b. plain row.JmpShort Four b))
 forms_at wide (instr.Jcc c by) = plain (row.JccNear c) Four by ∷ unless wide (if_signed Four by (λ b. plain (row.JccShort c) Four b))
 forms_at wide i = forms i
+
+-- the least of what the forms offer, without the short jumps where it is true
+unfoldable pub best_at : Bool → Instr → List ℕ
+best_at wide i = picks no_text (forms_at wide i)
+
+-- The bytes of an instruction's best spelling, and of its best one without short jumps. Where the instruction has no
+-- spelling they say nothing.
+abbrev pub best : Instr → List ℕ
+best i = best_at false i
+
+abbrev pub best_wide : Instr → List ℕ
+best_wide i = best_at true i
