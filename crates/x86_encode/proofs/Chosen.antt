@@ -1,6 +1,6 @@
 -- What is picked from all forms of an instruction is its best spelling.
 use Rattle.std.proofs.Common.{◌≡◌, ℕ, ◌<◌, Bool, true, false, cond, List, [], ◌∷◌, length, Option, Some, None, inl, inr, ◌⊎◌, refl, sym, ap, subst, ◌∙◌, arith}
-use Rattle.std.proofs.lemmas.Bool.{false≢true}
+use Rattle.std.proofs.lemmas.Bool.{false≢true, false_from_ne_true}
 use Rattle.std.specs.Prelude.{IfSome}
 use Rattle.x86_types.specs.Numbers.{reg_of, number_of_reg}
 use Rattle.x86_types.specs.declared.operand.Reg.{Reg}
@@ -88,14 +88,10 @@ allowed : (o : Option Rm) → (m : Rm) × (IfSome o (λ x. x ≡ m))
 allowed None = (rm.Reg reg.Eax, tt)
 allowed (Some m) = (m, refl)
 
-is_false : (b : Bool) → (b ≡ true → ⊥) → b ≡ false
-is_false true h = absurd (h refl)
-is_false false h = refl
-
 not_short : FormsAreRight → (i : Instr) (f : Form) → In f (forms i) → is_jump i ≡ false → is_short f.row ≡ false
 not_short right i f h e =
     let m = allowed f.rm in
-    is_false (is_short f.row) (λ s. false≢true (sym e ∙ short_means f.row f.half f.rep f.middle m.0 f.imm i s (right.means i f m.0 h m.1)))
+    false_from_ne_true (is_short f.row) (λ s. false≢true (sym e ∙ short_means f.row f.half f.rep f.middle m.0 f.imm i s (right.means i f m.0 h m.1)))
 
 long_row : (f g : Form) → f ≡ g → is_short g.row ≡ false → is_short f.row ≡ false
 long_row f g e h = subst (λ (x : Form). is_short x.row ≡ false) (sym e) h

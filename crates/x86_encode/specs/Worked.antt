@@ -18,8 +18,8 @@ use Rattle.x86_encode.specs.Choice.{best, best_wide}
 abbrev pub worked_best : List (Instr × List ℕ)
 worked_best =
     -- MOV of a constant, of a register, from memory and to memory
-    (instr.Mov Four (rm.Reg reg.Ebx) (src.Imm 7), 0xBB ∷ 7 ∷ 0 ∷ 0 ∷ 0 ∷ []) ∷
-    (instr.Mov Two (rm.Reg reg.Ecx) (src.Imm 7), 0x66 ∷ 0xB9 ∷ 7 ∷ 0 ∷ []) ∷
+    (instr.Mov Four (rm.Reg reg.Ebx) (src.Imm 7), 0xBB ∷ 0x07 ∷ 0x00 ∷ 0x00 ∷ 0x00 ∷ []) ∷
+    (instr.Mov Two (rm.Reg reg.Ecx) (src.Imm 7), 0x66 ∷ 0xB9 ∷ 0x07 ∷ 0x00 ∷ []) ∷
     (instr.Mov Four (rm.Reg reg.Ecx) (src.Reg reg.Edx), 0x89 ∷ 0xD1 ∷ []) ∷
     (instr.Mov Four (rm.Reg reg.Eax) (src.Mem (at None None 1 0x0804A010)), 0xA1 ∷ 0x10 ∷ 0xA0 ∷ 0x04 ∷ 0x08 ∷ []) ∷
     (instr.Mov Four (rm.Reg reg.Ecx) (src.Mem (at None None 1 0x0804A010)), 0x8B ∷ 0x0D ∷ 0x10 ∷ 0xA0 ∷ 0x04 ∷ 0x08 ∷ []) ∷
@@ -33,7 +33,7 @@ worked_best =
     -- the greatest length
     (instr.Mov Four (rm.Mem (at (Some reg.Eax) (Some reg.Ecx) 4 0x12345678)) (src.Imm 0x9ABCDEF0), 0xC7 ∷ 0x84 ∷ 0x88 ∷ 0x78 ∷ 0x56 ∷ 0x34 ∷ 0x12 ∷ 0xF0 ∷ 0xDE ∷ 0xBC ∷ 0x9A ∷ []) ∷
     -- ADD of a constant of a byte, of one that goes with EAX alone, and of another; ADD of a register
-    (instr.Alu alu.Add Four (rm.Reg reg.Eax) (src.Imm 5), 0x83 ∷ 0xC0 ∷ 5 ∷ []) ∷
+    (instr.Alu alu.Add Four (rm.Reg reg.Eax) (src.Imm 5), 0x83 ∷ 0xC0 ∷ 0x05 ∷ []) ∷
     (instr.Alu alu.Add Four (rm.Reg reg.Eax) (src.Imm 0x12345678), 0x05 ∷ 0x78 ∷ 0x56 ∷ 0x34 ∷ 0x12 ∷ []) ∷
     (instr.Alu alu.Add Four (rm.Reg reg.Ecx) (src.Imm 0x80), 0x81 ∷ 0xC1 ∷ 0x80 ∷ 0x00 ∷ 0x00 ∷ 0x00 ∷ []) ∷
     (instr.Alu alu.Add Four (rm.Reg reg.Eax) (src.Reg reg.Ecx), 0x01 ∷ 0xC8 ∷ []) ∷
@@ -64,7 +64,7 @@ worked_wide =
     (instr.Jmp 0xFFFFFFFE, 0xE9 ∷ 0xFE ∷ 0xFF ∷ 0xFF ∷ 0xFF ∷ []) ∷
     (instr.Jcc cond.E 0, 0x0F ∷ 0x84 ∷ 0x00 ∷ 0x00 ∷ 0x00 ∷ 0x00 ∷ []) ∷
     (instr.Jcc cond.No 0x100, 0x0F ∷ 0x81 ∷ 0x00 ∷ 0x01 ∷ 0x00 ∷ 0x00 ∷ []) ∷
-    (instr.Mov Four (rm.Reg reg.Ebx) (src.Imm 7), 0xBB ∷ 7 ∷ 0 ∷ 0 ∷ 0 ∷ []) ∷
+    (instr.Mov Four (rm.Reg reg.Ebx) (src.Imm 7), 0xBB ∷ 0x07 ∷ 0x00 ∷ 0x00 ∷ 0x00 ∷ []) ∷
     []
 
 -- each of the instructions has a spelling, and the bytes beside it are what is computed
