@@ -7,7 +7,7 @@ The files are i386 ELF files, by default the system's i386 libraries; others are
 together have less than 16 MB, they are taken several times. crates/linear_sweep decodes the bytes, instruction after instruction;
 crates/encode_sweep decodes them in the same way and encodes each instruction found, so the difference of their times is the
 encoder's. Prints the best of some runs of each, and the ratio. The status is 0 where encoding an instruction takes at most as long
-as decoding three, 1 where it takes longer, and 3 where nothing was measured, since there is no text or no program.
+as decoding two, 1 where it takes longer, and 3 where nothing was measured, since there is no text or no program.
 """
 
 import os
@@ -20,7 +20,7 @@ from timing import best_time, built, printed_by, timed_text  # noqa: E402
 
 RUNS = 5
 # times as long as the decoder
-MOST_RATIO = 3
+MOST_RATIO = 2
 
 
 def found(said):
