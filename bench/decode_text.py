@@ -3,26 +3,21 @@
 
     decode_text.py [FILE..]
 
-The files are i386 ELF files, by default the system's i386 libraries; their executable sections together have to have 16
-MB. Each program sweeps the same bytes, instruction after instruction: crates/linear_sweep by this decoder, and one for
-capstone and one for Zydis where gcc finds them, without printing. Prints the best of some runs of each, and the
-ratio; the status is 1 where the decoder is slower than the slower of the two. Skipped where a peer or text is missing.
+The files are i386 ELF files, by default the system's i386 libraries; others are passed over. Where their executable sections
+together have less than 16 MB, they are taken several times. Each program sweeps the same bytes, instruction after instruction:
+crates/linear_sweep by this decoder, and one for capstone and one for Zydis where gcc finds them, without printing. Prints the best
+of some runs of each, and the ratio. The status is 0 where the decoder is no slower than the slower of the two, 1 where it is, and
+3 where nothing was compared, since there is no text, no program or neither library.
 """
 
 import os
 import subprocess
 import sys
 import tempfile
-import time
 
-TOP = os.path.dirname(os.path.dirname(os.path.abspath(__file__)))
 sys.dont_write_bytecode = True
-sys.path.insert(0, os.path.join(TOP, "checks"))
-from elf_text import libraries, text_of  # noqa: E402
-from programs import built  # noqa: E402
+from timing import best_time, built, printed_by, skip, timed_text  # noqa: E402
 
-LEAST = 16 * 1000 * 1000
-MOST = 64 * 1000 * 1000
 RUNS = 5
 
 READING = r"""
@@ -56,7 +51,7 @@ int main(int words, char **word) {
     }
     printf("%zu instructions\n", found);
 }
-""", "-lcapstone"),
+""", "-lcapstone", "libcapstone-dev"),
     "Zydis": (READING + r"""
 #include <Zydis/Zydis.h>
 int main(int words, char **word) {
@@ -76,21 +71,12 @@ int main(int words, char **word) {
     }
     printf("%zu instructions\n", found);
 }
-""", "-lZydis"),
+""", "-lZydis", "libzydis-dev"),
 }
 
 
-def text(paths, wanted):
-    found = b""
-    for path in paths:
-        found += text_of(path)
-        if len(found) >= wanted:
-            break
-    return found[:wanted]
-
-
 def compiled(folder, name):
-    source, library = PEERS[name]
+    source, library, _ = PEERS[name]
     path = os.path.join(folder, name)
     with open(path + ".c", "w") as file:
         file.write(source)
@@ -101,38 +87,26 @@ def compiled(folder, name):
     return path
 
 
-def best(program, path):
-    times = []
-    for _ in range(RUNS):
-        start = time.perf_counter()
-        said = subprocess.run([program, path], capture_output=True, text=True, check=True).stdout
-        times.append(time.perf_counter() - start)
-    return min(times), said.strip()
-
-
 def main():
-    bytes_ = text(sys.argv[1:] or libraries(), MOST)
-    if len(bytes_) < LEAST:
-        print(f"skipped: {len(bytes_)} bytes of i386 text, and {LEAST} are wanted")
-        return 0
+    program = built("linear_sweep")
+    text = timed_text(sys.argv[1:])
     with tempfile.TemporaryDirectory() as folder:
         path = os.path.join(folder, "text")
         with open(path, "wb") as file:
-            file.write(bytes_)
-        own, said = best(built("linear_sweep"), path)
-        print(f"{len(bytes_)} bytes of text")
-        print(f"this decoder  {own:7.3f} s  {said}")
+            file.write(text)
+        own = best_time([program, path], RUNS)
+        print(f"this decoder  {own:7.3f} s  {printed_by([program, path])}")
         peers = []
-        for name in PEERS:
-            program = compiled(folder, name)
-            if program is None:
-                print(f"{name:12}  skipped: gcc or the library is missing")
+        for name, (_, _, package) in PEERS.items():
+            peer = compiled(folder, name)
+            if peer is None:
+                print(f"{name:12}  skipped: gcc or the package {package} is missing")
                 continue
-            taken, said = best(program, path)
+            taken = best_time([peer, path], RUNS)
             peers.append(taken)
-            print(f"{name:12}  {taken:7.3f} s  {said}; {taken / own:.2f} times as long")
+            print(f"{name:12}  {taken:7.3f} s  {printed_by([peer, path])}; {taken / own:.2f} times as long")
     if not peers:
-        return 0
+        skip("there is no library to compare the decoder with")
     print("ok" if own <= max(peers) else "too slow")
     return 0 if own <= max(peers) else 1
 

@@ -4,7 +4,7 @@
 A file of 16 MiB with one large segment is timed beside cat of the same file. Files of 1,000, 8,000 and 65,535 segments of
 a page, in three orders, are timed beside a call that only reads its words; eight times the segments may cost at most
 sixteen times as much, so that the cost doesn't grow with the square of their number. Each call may take at most five
-seconds. The status is 1 where that isn't so.
+seconds. The status is 0 where that is so, 1 where it isn't, and 3 where nothing was measured, since the program isn't there.
 """
 
 import os
@@ -13,11 +13,10 @@ import struct
 import subprocess
 import sys
 import tempfile
-import time
 
-TOP = os.path.dirname(os.path.dirname(os.path.abspath(__file__)))
-SW = os.path.join(TOP, "sw")
-PROGRAM = os.path.join(TOP, "crates", "sw_cli", "out", "sw_cli")
+sys.dont_write_bytecode = True
+from timing import best_time, built_sw  # noqa: E402
+
 CALLS = 9
 MIB = 1 << 20
 
@@ -48,37 +47,23 @@ ORDERS = (
 )
 
 
-def best(command, wanted):
-    times = []
-    for _ in range(CALLS):
-        start = time.perf_counter()
-        status = subprocess.run(command, stdout=subprocess.DEVNULL, stderr=subprocess.DEVNULL, check=False).returncode
-        times.append(time.perf_counter() - start)
-        if status != wanted:
-            sys.exit(f"{' '.join(command)}: status {status} instead of {wanted}")
-    return min(times)
-
-
 def line_of(command):
     return subprocess.run(command, capture_output=True, check=False).stderr.decode().strip()
 
 
 def main():
-    if shutil.which("rt") is None and not os.path.exists(PROGRAM):
-        print("skipped: the program isn't built, and rt, which builds it, isn't found")
-        return 0
-    subprocess.run([SW], stderr=subprocess.DEVNULL, check=False)
-    alone = best([PROGRAM, "none"], 125)
+    program = built_sw()
+    alone = best_time([program, "none"], CALLS, 125)
     print(f"words alone                  {1000 * alone:9.2f} ms")
     failed = False
     with tempfile.TemporaryDirectory() as folder:
         path, out, map_ = (os.path.join(folder, name) for name in ("in", "out", "map"))
-        command = [PROGRAM, "rewrite", path, out, map_]
+        command = [program, "rewrite", path, out, map_]
 
         def timed(name, content):
             with open(path, "wb") as file:
                 file.write(content)
-            whole = best(command, 124)
+            whole = best_time(command, CALLS, 124)
             print(f"{name:28} {1000 * whole:9.2f} ms, {line_of(command)}")
             return whole
 
@@ -87,7 +72,7 @@ def main():
         if shutil.which("cat") is None:
             print("skipped: cat isn't found")
         else:
-            copied = best(["cat", path], 0)
+            copied = best_time(["cat", path], CALLS)
             print(f"{'cat of it':28} {1000 * copied:9.2f} ms, so reading takes {large / copied:.1f} times as long")
         for name, order in ORDERS:
             costs = []

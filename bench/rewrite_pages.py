@@ -1,25 +1,21 @@
 #!/usr/bin/env python3
 """Times rewriting on pages of code, beside a call that only reads its words, in one run.
 
-The program that ./sw builds is called itself, since the script around it takes longer than a rewriting.
-
 Prints for each file the best time of a call, and that time less the call that only reads its words. A page of twice the
 instructions may cost at most four times as much, so that cost doesn't grow with the square of the work, and each call
-at most a second; the status is 1 where that isn't so.
+at most a second. The status is 0 where that is so, 1 where it isn't, and 3 where nothing was measured, since the program isn't
+there.
 """
 
 import importlib.util
 import os
-import subprocess
 import sys
 import tempfile
-import time
 
-TOP = os.path.dirname(os.path.dirname(os.path.abspath(__file__)))
-SW = os.path.join(TOP, "sw")
-PROGRAM = os.path.join(TOP, "crates", "sw_cli", "out", "sw_cli")
-CALLS = 50
 sys.dont_write_bytecode = True
+from timing import TOP, best_time, built_sw  # noqa: E402
+
+CALLS = 50
 
 
 def example_maker():
@@ -29,17 +25,6 @@ def example_maker():
     return module
 
 
-def best(words, wanted):
-    times = []
-    for _ in range(CALLS):
-        start = time.perf_counter()
-        status = subprocess.run([PROGRAM, *words], stderr=subprocess.DEVNULL, check=False).returncode
-        times.append(time.perf_counter() - start)
-        if status != wanted:
-            sys.exit(f"{words[0]}: status {status} instead of {wanted}")
-    return min(times)
-
-
 def backward(count):
     """A jump to the last of so many jumps, each of which leads to the one before it, and the first to itself."""
     return b"\xE9" + (2 * (count - 1)).to_bytes(4, "little") + b"\xEB\xFE" + b"\xEB\xFC" * (count - 1)
@@ -47,8 +32,8 @@ def backward(count):
 
 def main():
     maker = example_maker()
-    subprocess.run([SW], stderr=subprocess.DEVNULL, check=False)
-    alone = best(["none"], 125)
+    program = built_sw()
+    alone = best_time([program, "none"], CALLS, 125)
     print(f"words alone              {1000 * alone:8.2f} ms")
     failed = False
     for name, make, counts in (
@@ -63,7 +48,7 @@ def main():
                 with open(path, "wb") as file:
                     file.write(maker.executable(make(count)))
                 out, map_ = os.path.join(folder, "out"), os.path.join(folder, "map")
-                whole = best(["rewrite", path, out, map_], 0)
+                whole = best_time([program, "rewrite", path, out, map_], CALLS)
             costs.append(max(whole - alone, 0.0))
             print(f"{count:5} {name:18} {1000 * whole:8.2f} ms, {1000 * costs[-1]:8.2f} ms more than words alone")
             failed = failed or whole > 1

@@ -3,9 +3,10 @@
 
     decoder_beside_objdump.py [FILE..]
 
-The files are i386 ELF files, by default the system's i386 libraries. Of each list of bytes, length and operands have to
-be the same, and of each row of the table the shortest spellings have to mean the row's instruction, but for the classes of difference below, which docs/DECISIONS.md explains; each is printed with its number
-and an example. The status is 1 where a difference is in no class. Skipped where objdump is missing.
+The files are i386 ELF files, by default the system's i386 libraries; others are passed over. Of each list of bytes, length and
+operands have to be the same, and of each row of the table the shortest spellings have to mean the row's instruction, but for the
+classes of difference below, which docs/DECISIONS.md explains; each is printed with its number and an example. The status is 0
+where each difference is in a class, 1 where one is in none, and 3 where nothing was compared, since objdump or the program is missing.
 """
 
 import os
@@ -19,8 +20,8 @@ import tempfile
 TOP = os.path.dirname(os.path.dirname(os.path.abspath(__file__)))
 sys.dont_write_bytecode = True
 sys.path.insert(0, os.path.join(TOP, "checks"))
-from elf_text import libraries, text_of  # noqa: E402
-from programs import built  # noqa: E402
+from elf_text import PACKAGES, libraries, texts_of  # noqa: E402
+from programs import built, skip  # noqa: E402
 
 RANDOM = 300_000
 REAL = 400_000
@@ -269,8 +270,7 @@ def random_lists(count):
 def real_lists(paths, count):
     """Instructions of real text, each list of bytes once, found by this decoder's own lengths from each text's start."""
     seen = set()
-    for path in paths:
-        text = text_of(path)
+    for text in texts_of(paths):
         with tempfile.NamedTemporaryFile() as file:
             file.write(text[: 8 * 1000 * 1000])
             file.flush()
@@ -335,8 +335,7 @@ def compare_spellings(lists):
 
 def main():
     if shutil.which("objdump") is None:
-        print("skipped: no objdump")
-        return 0
+        skip("objdump, of the package binutils, isn't found")
     table = list(table_lists())
     good = compare("the golden table", table)
     good = compare_spellings(table) and good
@@ -345,7 +344,7 @@ def main():
     if real:
         good = compare("real programs", real) and good
     else:
-        print("real programs: skipped, no i386 ELF file was found")
+        print(f"real programs: skipped, no i386 ELF file was found; the packages {PACKAGES} have some")
     return 0 if good else 1
 
 

@@ -7,12 +7,16 @@ SHF_EXECINSTR = 4
 SHT_PROGBITS = 1
 EM_386 = 3
 
+# where Debian has i386 libraries, for a script that wants more of their text
+PACKAGES = "libc6-i386 and lib32stdc++6"
+
 
 def text_of(path):
-    """The bytes of the file's executable sections, one after the other; empty where it is no i386 ELF file."""
+    """The bytes of the file's executable sections, one after the other; empty where it is no i386 ELF file, as a linker's script
+    that is named like a library."""
     with open(path, "rb") as file:
         data = file.read()
-    if data[:6] != b"\x7fELF\x01\x01" or struct.unpack_from("<H", data, 18)[0] != EM_386:
+    if len(data) < 52 or data[:6] != b"\x7fELF\x01\x01" or struct.unpack_from("<H", data, 18)[0] != EM_386:
         return b""
     offset = struct.unpack_from("<I", data, 32)[0]
     size, count = struct.unpack_from("<HH", data, 46)
@@ -22,6 +26,14 @@ def text_of(path):
         if kind == SHT_PROGBITS and flags & SHF_EXECINSTR:
             parts.append(data[start : start + length])
     return b"".join(parts)
+
+
+def texts_of(paths):
+    """The executable bytes of each file that has any."""
+    for path in paths:
+        text = text_of(path)
+        if text:
+            yield text
 
 
 def libraries():

@@ -2,24 +2,22 @@
 # Lets each allocation of a call fail in turn, number 1 first. Each time the answer is want of memory, with its line where the
 # words were read, and OUT and MAP are as stated; or the answer that comes with memory, since the standard library does without a
 # few allocations that fail. Where that answer comes four times in a row no allocation has such a number. Prints a line for each
-# number; the status is 0 where none failed. It stands outside the gate, since no program of the gate can want memory.
+# number; the status is 0 where none failed, 1 where one did, and 3 where rt is missing, which builds the program and lets
+# allocations fail. It stands outside the gate, since no program of the gate can want memory.
 #
 # Where there is a C compiler, a small library that is loaded before the C library refuses the allocation. Elsewhere, and with the
 # word rt, rt try does, which builds the program for each number and takes half a minute; it doesn't show the line.
 set -u
 top=$(dirname "$(dirname "$(readlink -f "$0")")")
 program=$top/crates/sw_cli/out/sw_cli
+. "$top/checks/check.sh"
+needs rt
 folder=$(mktemp -d) || exit 1
 trap 'rm -rf "$folder"' EXIT
-if ! command -v rt >/dev/null; then
-    echo "skipped  rt, which builds the program and lets allocations fail, isn't found"
-    exit 0
-fi
 cp "$top/examples/exit7" "$folder/exit7"
 head -c 100 "$folder/exit7" >"$folder/cut"
 "$top/sw" rewrite "$folder/exit7" "$folder/new" "$folder/map" || exit 1
 cd "$top/crates/sw_cli" || exit 1
-failures=0
 
 # The library: of malloc, realloc and their kin, the call of the number in REFUSED gives nothing.
 cat >"$folder/refuse.c" <<'C'
@@ -111,5 +109,4 @@ sweep() {
 sweep exit7 0 written
 sweep cut 124 kept
 
-echo "$failures failed"
-[ "$failures" -eq 0 ]
+ends_by_failures

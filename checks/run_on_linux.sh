@@ -1,15 +1,16 @@
 #!/usr/bin/env bash
 # Rewrites the examples with ./sw, and runs the old and the new files on this Linux. It also calls ./sw where a call is to
-# fail. Prints a line for each check; the status is 0 where none failed. It stands outside the gate, since no proof speaks of
-# the kernel, of files or of the standard error.
+# fail. Prints a line for each check; the status is 0 where none failed, 1 where one did, and 3 where the program is missing. It
+# stands outside the gate, since no proof speaks of the kernel, of files or of the standard error.
 set -u
 top=$(dirname "$(dirname "$(readlink -f "$0")")")
 sw=$top/sw
+. "$top/checks/check.sh"
+needs_program "$top"
 folder=$(mktemp -d) || exit 1
 trap 'rm -rf "$folder"' EXIT
 cd "$folder" || exit 1
 ulimit -c 0
-. "$top/checks/check.sh"
 
 # calls STATUS LINE WORDS..: ./sw ends so, says that line alone on the standard error (none if empty), and prints nothing.
 calls() {
@@ -197,5 +198,4 @@ cat exit7 long >>old
 check "an older, longer file is replaced" calls 0 "" rewrite exit7 old map
 check "an older, longer file is replaced whole" cmp -s old exit7.new
 
-echo "$failures failed"
-[ "$failures" -eq 0 ]
+ends_by_failures

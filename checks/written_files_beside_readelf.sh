@@ -1,22 +1,19 @@
 #!/usr/bin/env bash
 # Rewrites the examples with ./sw, and has readelf and objdump read the new files: neither has anything to object, and the program
-# headers are as Linux wants them. One new file is also run. Prints a line for each check; the status is 0 where none failed. It
-# stands outside the gate, since no proof speaks of these tools or of a kernel.
+# headers are as Linux wants them. One new file is also run. Prints a line for each check; the status is 0 where none failed, 1 where
+# one did, and 3 where a tool or the program is missing. It stands outside the gate, since no proof speaks of these tools or of a
+# kernel.
 set -u
 top=$(dirname "$(dirname "$(readlink -f "$0")")")
 sw=$top/sw
-for tool in readelf objdump; do
-    if ! command -v "$tool" >/dev/null; then
-        echo "skipped  $tool isn't found"
-        exit 0
-    fi
-done
+. "$top/checks/check.sh"
+needs readelf objdump
+needs_program "$top"
 folder=$(mktemp -d) || exit 1
 trap 'rm -rf "$folder"' EXIT
 cd "$folder" || exit 1
 ulimit -c 0
 export LC_ALL=C
-. "$top/checks/check.sh"
 
 # objects_to_nothing TOOL WORDS..: it ends with 0, says nothing on the standard error, and no warning.
 objects_to_nothing() {
@@ -73,5 +70,4 @@ else
     echo "skipped  the run of a file: this system doesn't run i386 files in $folder"
 fi
 
-echo "$failures failed"
-[ "$failures" -eq 0 ]
+ends_by_failures

@@ -1,6 +1,6 @@
 -- No spelling of a form comes before the form's best.
 use Rattle.std.proofs.Common.{◌≡◌, ℕ, ◌+◌, ◌*◌, ◌/◌, ◌%◌, ◌<◌, ◌≤◌, Bool, true, false, cond, ltb, eqb, ◌&&◌, List, [], ◌∷◌, Option, Some, None, refl, sym, ap, subst, ◌∙◌, inl, inr, ◌⊎◌, arith}
-use Rattle.std.proofs.lemmas.Bool.{eqb-true, cases_lt, ltb-false}
+use Rattle.std.proofs.lemmas.Bool.{eqb-true, cases_lt, ltb-false, and_parts}
 use Rattle.std.specs.Prelude.{IfSome}
 use Rattle.x86_types.specs.declared.operand.Reg.{Reg}
 use Rattle.x86_types.specs.declared.operand.Address.{Address}
@@ -16,7 +16,7 @@ use Rattle.x86_grammar.specs.Spells.{Spelling, IsSpelling, bytes_of, opcode_byte
 use Rattle.x86_grammar.specs.Rows.{bit}
 use Rattle.x86_encode.specs.BestOperand.{best_bytes}
 use Rattle.x86_encode.specs.BestForm.{best_prefixes, best_operand, best_part, form_best}
-use Rattle.x86_encode.proofs.Ordering.{and_left, NotAfter, NotAfter-refl, NotAfter-both}
+use Rattle.x86_encode.proofs.Ordering.{NotAfter, NotAfter-refl, NotAfter-both}
 use Rattle.x86_encode.proofs.OperandTest.{operand_is_best}
 
 -- one byte against some
@@ -101,7 +101,7 @@ best_front can (x ∷ []) = one_prefix x (eqb x 102) (eqb x 243) can refl refl
 best_front can (x ∷ y ∷ t) =
     let c : Counts = counted no_counts (x ∷ y ∷ t) in
     more_prefixes _ _ x y t (λ h p e.
-    let n = rw e at (eqb-true c.halves 1 (and_left (eqb c.halves 1) can h)) in
+    let n = rw e at (eqb-true c.halves 1 (and_parts (eqb c.halves 1) can h).0) in
     let k = rw e at (eqb-true c.repeats 1 p) in
     two_prefixes x y _ _ _ _ refl refl refl refl (omega (arith, n)) (omega (arith, k)))
 

@@ -1,6 +1,6 @@
 -- What is picked from all forms of an instruction is its best spelling.
 use Rattle.std.proofs.Common.{◌≡◌, ℕ, ◌<◌, Bool, true, false, cond, List, [], ◌∷◌, length, Option, Some, None, inl, inr, ◌⊎◌, refl, sym, ap, subst, ◌∙◌, arith}
-use Rattle.std.proofs.lemmas.Bool.{false≢true}
+use Rattle.std.proofs.lemmas.Bool.{false≢true, false_from_ne_true}
 use Rattle.std.specs.Prelude.{IfSome}
 use Rattle.x86_types.specs.Numbers.{reg_of, number_of_reg}
 use Rattle.x86_types.specs.declared.operand.Reg.{Reg}
@@ -45,7 +45,7 @@ pub record Laws : Type 0 where
   pub reg_again : (r : Reg) → reg_of (number_of_reg r) ≡ r
   pub number_again : (n : ℕ) → n < 8 → number_of_reg (reg_of n) ≡ n
 
-all_at : (i : Instr) → forms_at false i ≡ forms i
+pub all_at : (i : Instr) → forms_at false i ≡ forms i
 all_at (instr.Jmp by) = refl
 all_at (instr.Jcc c by) = refl
 all_at i = refl
@@ -88,14 +88,10 @@ allowed : (o : Option Rm) → (m : Rm) × (IfSome o (λ x. x ≡ m))
 allowed None = (rm.Reg reg.Eax, tt)
 allowed (Some m) = (m, refl)
 
-is_false : (b : Bool) → (b ≡ true → ⊥) → b ≡ false
-is_false true h = absurd (h refl)
-is_false false h = refl
-
 not_short : FormsAreRight → (i : Instr) (f : Form) → In f (forms i) → is_jump i ≡ false → is_short f.row ≡ false
 not_short right i f h e =
     let m = allowed f.rm in
-    is_false (is_short f.row) (λ s. false≢true (sym e ∙ short_means f.row f.half f.rep f.middle m.0 f.imm i s (right.means i f m.0 h m.1)))
+    false_from_ne_true (is_short f.row) (λ s. false≢true (sym e ∙ short_means f.row f.half f.rep f.middle m.0 f.imm i s (right.means i f m.0 h m.1)))
 
 long_row : (f g : Form) → f ≡ g → is_short g.row ≡ false → is_short f.row ≡ false
 long_row f g e h = subst (λ (x : Form). is_short x.row ≡ false) (sym e) h
@@ -104,7 +100,7 @@ pub record InBoth (f : Form) (i : Instr) : Type 0 where
   pub among : In f (forms i)
   pub long : is_short f.row ≡ false
 
-wide_in : FormsAreRight → (i : Instr) (f : Form) → In f (forms_at true i) → InBoth f i
+pub wide_in : FormsAreRight → (i : Instr) (f : Form) → In f (forms_at true i) → InBoth f i
 wide_in right (instr.Jmp by) f (inl h) = record { among = inl h; long = long_row f _ h refl }
 wide_in right (instr.Jmp by) f (inr h) = absurd h
 wide_in right (instr.Jcc c by) f (inl h) = record { among = inl h; long = long_row f _ h refl }
@@ -126,7 +122,7 @@ in_wide (instr.Jcc c by) f (inl h) e = inl h
 in_wide (instr.Jcc c by) f (inr h) e = absurd (no_short _ f _ h refl e)
 in_wide i f h e = h
 
-some_wide : (i : Instr) (f : Form) → In f (forms i) → (g : Form) × (In g (forms_at true i))
+pub some_wide : (i : Instr) (f : Form) → In f (forms i) → (g : Form) × (In g (forms_at true i))
 some_wide (instr.Jmp by) f h = (plain row.JmpNear Four by, inl refl)
 some_wide (instr.Jcc c by) f h = (plain (row.JccNear c) Four by, inl refl)
 some_wide i f h = (f, h)

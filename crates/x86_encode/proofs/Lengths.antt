@@ -1,65 +1,56 @@
--- The best spelling is one, and how long a wide jump is.
-use Rattle.std.proofs.Common.{◌≡◌, ℕ, true, List, [], ◌∷◌, length, inl, inr, ◌⊎◌, refl, sym, ap, ◌∙◌, arith}
-use Rattle.std.specs.Prelude.{◌↔◌}
-use Rattle.x86_types.specs.declared.instr.Instr.{Instr}
+-- How long the best spellings of moves and of wide jumps are.
+use Rattle.std.proofs.Common.{◌≡◌, ℕ, ◌≤◌, List, ◌∷◌, ◌++◌, length, refl, inl, Some, [], true, false, arith, length-append}
 use Rattle.x86_types.specs.declared.instr.Instr.TheVariants as instr
+use Rattle.x86_types.specs.declared.operand.Reg.{Reg}
+use Rattle.x86_types.specs.declared.operand.Reg.TheVariants as reg
+use Rattle.x86_types.specs.declared.operand.Address.{Address}
+use Rattle.x86_types.specs.declared.operand.Rm.TheVariants as rm
+use Rattle.x86_types.specs.declared.operand.Src.TheVariants as src
 use Rattle.x86_types.specs.declared.operation.Cond.{Cond}
 use Rattle.x86_types.specs.declared.operation.Cond.TheVariants as cond
 use Rattle.x86_types.specs.declared.width.Width.TheVariants.{Four}
+use Rattle.x86_types.specs.Numbers.{number_of_reg}
 use Rattle.x86_grammar.specs.declared.row.Form.{Form}
 use Rattle.x86_grammar.specs.declared.row.Row.TheVariants as row
-use Rattle.x86_grammar.specs.Fields.{HasSpelling, fields_fit}
-use Rattle.x86_grammar.specs.Parts.{plain}
-use Rattle.x86_encode.specs.Order.{BeforeByBytes, Before}
-use Rattle.x86_encode.specs.Best.{IsBest, IsBestWide}
-use Rattle.x86_encode.specs.BestForm.{form_best}
-use Rattle.x86_encode.specs.Choice.{picks, no_text, forms_at}
-use Rattle.x86_encode.proofs.Ordering.{Picked}
-use Rattle.x86_encode.proofs.Chosen.{Laws, picked, best_wide_is}
+use Rattle.x86_grammar.specs.Forms.{In, forms}
+use Rattle.x86_grammar.specs.Parts.{with_rm}
+use Rattle.x86_encode.specs.BestForm.{best_part, form_best}
+use Rattle.x86_encode.specs.Choice.{best_at, best, best_wide, no_text, picks}
+use Rattle.x86_encode.specs.Laws.{BestLengths}
+use Rattle.x86_encode.proofs.Ordering.{no_longer, picks_least}
+use Rattle.x86_encode.proofs.Spelled.{part_short}
 
-not_both_by_bytes : (a b : List ℕ) → BeforeByBytes a b → BeforeByBytes b a → ⊥
-not_both_by_bytes [] b h k = absurd h
-not_both_by_bytes (x ∷ a) [] h k = absurd h
-not_both_by_bytes (x ∷ a) (y ∷ b) (inl h) (inl k) = absurd (omega arith)
-not_both_by_bytes (x ∷ a) (y ∷ b) (inl h) (inr k) = let e = k.0 in absurd (omega arith)
-not_both_by_bytes (x ∷ a) (y ∷ b) (inr h) (inl k) = let e = h.0 in absurd (omega arith)
-not_both_by_bytes (x ∷ a) (y ∷ b) (inr h) (inr k) = not_both_by_bytes a b h.1 k.1
+constant : (to : Reg) (value : ℕ) → length (best (instr.Mov Four (rm.Reg to) (src.Imm value))) ≡ 5
+unfolding best_at
+constant to value = elim to as (λ r. length (best_at false (instr.Mov Four (rm.Reg r) (src.Imm value))) ≡ 5) [ reg.Eax ↦ refl | _ ↦ refl ]
 
-not_both : (a b : List ℕ) → Before a b → Before b a → ⊥
-not_both a b (inl h) (inl k) = absurd (omega arith)
-not_both a b (inl h) (inr k) = let e = k.0 in absurd (omega arith)
-not_both a b (inr h) (inl k) = let e = h.0 in absurd (omega arith)
-not_both a b (inr h) (inr k) = not_both_by_bytes a b h.1 k.1
+copy : (to from : Reg) → length (best (instr.Mov Four (rm.Reg to) (src.Reg from))) ≡ 2
+unfolding best_at
+copy to from = elim from as (λ r. length (best_at false (instr.Mov Four (rm.Reg to) (src.Reg r))) ≡ 2) [ reg.Eax ↦ refl | _ ↦ refl ]
 
-same : (a b : List ℕ) → (a ≡ b) ⊎ Before a b → (b ≡ a) ⊎ Before b a → a ≡ b
-same a b (inl h) k = h
-same a b (inr h) (inl k) = sym k
-same a b (inr h) (inr k) = absurd (not_both a b h k)
+-- what is picked is no longer than an opcode of one byte with an address
+move_short : (fs : List Form) (f : Form) (opcode : ℕ) (a : Address) (n : ℕ) → In f fs → form_best f ≡ opcode ∷ (best_part true (Some (rm.Mem a)) n ++ []) → length (picks no_text fs) ≤ 7
+move_short fs f opcode a n among is =
+    let l = no_longer _ _ (picks_least no_text f fs among) in
+    let part = best_part true (Some (rm.Mem a)) n in
+    let whole : length (form_best f) ≡ length (opcode ∷ (part ++ [])) = rw is refl in
+    omega (arith, l, whole, length-append part [], part_short true (Some (rm.Mem a)) n)
 
-pub one_best : (i : Instr) (t u : List ℕ) → IsBest i t → IsBest i u → t ≡ u
-one_best i t u h k = same t u (h.first u k.spells) (k.first t h.spells)
+load : (to : Reg) (from : Address) → length (best (instr.Mov Four (rm.Reg to) (src.Mem from))) ≤ 7
+unfolding best_at
+load to from = move_short (forms (instr.Mov Four (rm.Reg to) (src.Mem from))) (with_rm (row.MovToReg true) Four (number_of_reg to) (rm.Mem from) 0) 0x8B from (number_of_reg to) (inl refl) refl
 
-pub one_wide : (i : Instr) (t u : List ℕ) → IsBestWide i t → IsBestWide i u → t ≡ u
-one_wide i t u h k = same t u (h.first u k.spells) (k.first t h.spells)
+store : (to : Address) (from : Reg) → length (best (instr.Mov Four (rm.Mem to) (src.Reg from))) ≤ 7
+unfolding best_at
+store to from = move_short (forms (instr.Mov Four (rm.Mem to) (src.Reg from))) (with_rm (row.MovToRm true) Four (number_of_reg from) (rm.Mem to) 0) 0x89 to (number_of_reg from) (inl refl) refl
 
-only_one : (t : List ℕ) (f : Form) → Picked t (f ∷ []) → t ≡ form_best f
-only_one t f p = elim p.among [ inl e ↦ p.is ∙ ap form_best e | inr e ↦ absurd e ]
+jmp : (by : ℕ) → length (best_wide (instr.Jmp by)) ≡ 5
+unfolding best_at
+jmp by = refl
 
-jcc_long : (c : Cond) (by : ℕ) → length (form_best (plain (row.JccNear c) Four by)) ≡ 6
-jcc_long c by = elim c as (λ c. length (form_best (plain (row.JccNear c) Four by)) ≡ 6) [ cond.O ↦ refl | _ ↦ refl ]
+jcc : (cond : Cond) (by : ℕ) → length (best_wide (instr.Jcc cond by)) ≡ 6
+unfolding best_at
+jcc c by = elim c as (λ c. length (best_at true (instr.Jcc c by)) ≡ 6) [ cond.O ↦ refl | _ ↦ refl ]
 
-module _ (laws : Laws) (fits : (i : Instr) → (fields_fit i ≡ true) ↔ HasSpelling i) where
-  chosen : (i : Instr) (t : List ℕ) → IsBestWide i t → t ≡ picks no_text (forms_at true i)
-  chosen i t h =
-      let has : HasSpelling i = record { bytes = t; spells = h.spells.spells } in
-      one_wide i t _ h (best_wide_is laws i ((fits i).1 has) has)
-
-  pub jmp_length : (by : ℕ) (t : List ℕ) → IsBestWide (instr.Jmp by) t → length t ≡ 5
-  jmp_length by t h =
-      let f = plain row.JmpNear Four by in
-      ap length (chosen (instr.Jmp by) t h ∙ only_one _ f (picked (f ∷ []) f (inl refl)))
-
-  pub jcc_length : (c : Cond) (by : ℕ) (t : List ℕ) → IsBestWide (instr.Jcc c by) t → length t ≡ 6
-  jcc_length c by t h =
-      let f = plain (row.JccNear c) Four by in
-      ap length (chosen (instr.Jcc c by) t h ∙ only_one _ f (picked (f ∷ []) f (inl refl))) ∙ jcc_long c by
+pub best_lengths_hold : BestLengths
+best_lengths_hold = record { constant = constant; copy = copy; load = load; store = store; jmp = jmp; jcc = jcc }

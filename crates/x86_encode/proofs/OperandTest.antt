@@ -1,14 +1,14 @@
 -- No operand is spelled better, tested at each ModRM and SIB.
 use Rattle.std.proofs.Common.{◌≡◌, ℕ, zero, suc, ◌+◌, ◌-◌, ◌*◌, ◌/◌, ◌%◌, ◌^◌, ◌<◌, Bool, true, false, cond, not, ltb, eqb, ◌&&◌, ◌||◌, List, [], ◌∷◌, ◌++◌, length, Option, refl, arith}
 use Rattle.std.proofs.Common.{subst, sym, ap, ◌∙◌, inl, inr, ◌⊎◌, length-append}
-use Rattle.std.proofs.lemmas.Bool.{agree_below, agree_below_at, cases_lt, cond_both, ltb-true, eqb-true, lt-ltb, eq-eqb, false≢true}
+use Rattle.std.proofs.lemmas.Bool.{agree_below, agree_below_at, cases_lt, cond_both, ltb-true, eqb-true, lt-ltb, eq-eqb, false≢true, and_parts, or_cases}
 use Rattle.x86_types.specs.declared.operand.Reg.{Reg}
 use Rattle.x86_types.specs.declared.operand.Address.{Address}
 use Rattle.x86_types.specs.declared.width.Width.TheVariants.{Four}
 use Rattle.x86_grammar.specs.Parts.{signed}
 use Rattle.x86_grammar.specs.Operand.{le, disp_of, address, IsOperand, Operand, operand_bytes}
 use Rattle.x86_encode.specs.BestOperand.{class_of, raw, best_m, best_bytes}
-use Rattle.x86_encode.proofs.Ordering.{ByBytes, NotAfter, not_after_bytes, not_after_true, or_cases, and_left, and_right, ByBytes-refl}
+use Rattle.x86_encode.proofs.Ordering.{ByBytes, NotAfter, not_after_bytes, not_after_true, ByBytes-refl}
 use Rattle.x86_grammar.specs.Operand.{has_sib, disp_size, base_of, index_of, scale_of, sibs}
 use Rattle.x86_encode.specs.BestOperand.{best_mod, best_size, best_rm, best_sib, wants_sib}
 
@@ -48,14 +48,14 @@ sibs_at : (m n s : ℕ) → all_sibs m n ≡ true → s < n → all_better m s �
 sibs_at m zero s h lt = absurd (omega arith)
 sibs_at m (suc n) s h lt =
     elim (cases_lt s n) [
-      | inl l ↦ sibs_at m n s (and_right (all_better m n) (all_sibs m n) h) l
-      | inr g ↦ let e : n ≡ s = omega arith in subst (λ (k : ℕ). all_better m k ≡ true) e (and_left (all_better m n) (all_sibs m n) h)
+      | inl l ↦ sibs_at m n s (and_parts (all_better m n) (all_sibs m n) h).1 l
+      | inr g ↦ let e : n ≡ s = omega arith in subst (λ (k : ℕ). all_better m k ≡ true) e (and_parts (all_better m n) (all_sibs m n) h).0
     ]
 
 class_at : (m s c : ℕ) → all_better m s ≡ true → c < 3 → better m s c ≡ true
-class_at m s zero h lt = and_left _ (better m s 1) (and_left (better m s 0 && better m s 1) _ h)
-class_at m s (suc zero) h lt = and_right (better m s 0) _ (and_left (better m s 0 && better m s 1) _ h)
-class_at m s (suc (suc zero)) h lt = and_right (better m s 0 && better m s 1) _ h
+class_at m s zero h lt = (and_parts _ (better m s 1) (and_parts (better m s 0 && better m s 1) _ h).0).0
+class_at m s (suc zero) h lt = (and_parts (better m s 0) _ (and_parts (better m s 0 && better m s 1) _ h).0).1
+class_at m s (suc (suc zero)) h lt = (and_parts (better m s 0 && better m s 1) _ h).1
 class_at m s (suc (suc (suc c))) h lt = absurd (omega arith)
 
 if_can : (c x : Bool) → (not c || x) ≡ true → c ≡ true → x ≡ true
@@ -129,9 +129,9 @@ says m s c can h =
     elim (or_cases (ltb (length (best_head m s c) + best_size (base_of m s) c) (length (head m s) + disp_size m s)) _ x) [
       | inl l ↦ record { short = inl (ltb-true _ _ l) }
       | inr r ↦
-          let e = and_left (eqb (length (best_head m s c) + best_size (base_of m s) c) (length (head m s) + disp_size m s)) _ r in
-          let f = and_right (eqb (length (best_head m s c) + best_size (base_of m s) c) (length (head m s) + disp_size m s)) (eqb (length (best_head m s c)) (length (head m s)) && not_after_bytes (best_head m s c) (head m s)) r in
-          record { short = inr (eqb-true _ _ e, eqb-true _ _ (and_left (eqb (length (best_head m s c)) (length (head m s))) (not_after_bytes (best_head m s c) (head m s)) f), not_after_true (best_head m s c) (head m s) (and_right (eqb (length (best_head m s c)) (length (head m s))) (not_after_bytes (best_head m s c) (head m s)) f)) }
+          let e = (and_parts (eqb (length (best_head m s c) + best_size (base_of m s) c) (length (head m s) + disp_size m s)) _ r).0 in
+          let f = (and_parts (eqb (length (best_head m s c) + best_size (base_of m s) c) (length (head m s) + disp_size m s)) (eqb (length (best_head m s c)) (length (head m s)) && not_after_bytes (best_head m s c) (head m s)) r).1 in
+          record { short = inr (eqb-true _ _ e, eqb-true _ _ (and_parts (eqb (length (best_head m s c)) (length (head m s))) (not_after_bytes (best_head m s c) (head m s)) f).0, not_after_true (best_head m s c) (head m s) (and_parts (eqb (length (best_head m s c)) (length (head m s))) (not_after_bytes (best_head m s c) (head m s)) f).1) }
     ]
 
 same_says : (b b' : Option Reg) (i i' : Option Reg) (h h' : Bool) (z z' : ℕ) (m c s : ℕ) → b ≡ b' → i ≡ i' → h ≡ h' → z ≡ z' → Says (sibs (wants_sib b i) (best_sib b i (scale_of i s))) (sibs h s) (64 * best_mod b c + best_rm b i) m (best_size b c) z → Says (sibs (wants_sib b' i') (best_sib b' i' (scale_of i' s))) (sibs h' s) (64 * best_mod b' c + best_rm b' i') m (best_size b' c) z'

@@ -1,12 +1,11 @@
 -- The order of lists of bytes, and the least of several.
-use Rattle.std.proofs.Common.{◌≡◌, ℕ, ◌<◌, ◌≤◌, Bool, true, false, ltb, eqb, ◌&&◌, ◌||◌, List, [], ◌∷◌, ◌++◌, length, take, refl, sym, subst, ◌∙◌, inl, inr, ◌⊎◌, arith, length-append}
-use Rattle.std.proofs.lemmas.List.{length-take-le}
-use Rattle.std.proofs.lemmas.Bool.{cases_lt, cond_both, lt-ltb, le-ltb, eq-eqb, ltb-true, eqb-true, false≢true}
+use Rattle.std.proofs.Common.{◌≡◌, ℕ, ◌<◌, ◌≤◌, Bool, true, false, ltb, eqb, ◌&&◌, ◌||◌, List, [], ◌∷◌, ◌++◌, length, refl, sym, subst, ◌∙◌, inl, inr, ◌⊎◌, arith, length-append}
+use Rattle.std.proofs.lemmas.Bool.{cases_lt, cond_both, lt-ltb, le-ltb, eq-eqb, ltb-true, eqb-true, false≢true, and_parts, or_cases}
 use Rattle.x86_grammar.specs.declared.row.Form.{Form}
 use Rattle.x86_grammar.specs.Forms.{In}
 use Rattle.x86_encode.specs.Order.{BeforeByBytes, Before}
 use Rattle.x86_encode.specs.BestForm.{form_best}
-use Rattle.x86_encode.specs.Choice.{before_by_bytes, before, lesser, picks}
+use Rattle.x86_encode.specs.Choice.{comes_before_by_bytes, comes_before, lesser, picks}
 
 -- before it, or its front
 abbrev pub ByBytes : List ℕ → List ℕ → Type 0
@@ -85,37 +84,25 @@ same_or_before a b (inr h) = as_long a b h.0 (bytes_cases a b h.0 h.1)
 
 -- ---- the test
 
-pub or_cases : (a b : Bool) → (a || b) ≡ true → (a ≡ true) ⊎ (b ≡ true)
-or_cases true b h = inl refl
-or_cases false b h = inr h
-
-pub and_left : (a b : Bool) → (a && b) ≡ true → a ≡ true
-and_left true b e = refl
-and_left false b e = absurd (false≢true e)
-
-pub and_right : (a b : Bool) → (a && b) ≡ true → b ≡ true
-and_right true b e = e
-and_right false b e = absurd (false≢true e)
-
 pub not_after_true : (a b : List ℕ) → not_after_bytes a b ≡ true → ByBytes a b
 not_after_true [] b h = tt
 not_after_true (x ∷ a) [] h = absurd (false≢true h)
 not_after_true (x ∷ a) (y ∷ b) h =
     elim (or_cases (ltb x y) (eqb x y && not_after_bytes a b) h) [
       | inl l ↦ inl (ltb-true x y l)
-      | inr r ↦ inr (eqb-true x y (and_left (eqb x y) (not_after_bytes a b) r), not_after_true a b (and_right (eqb x y) (not_after_bytes a b) r))
+      | inr r ↦ inr (eqb-true x y (and_parts (eqb x y) (not_after_bytes a b) r).0, not_after_true a b (and_parts (eqb x y) (not_after_bytes a b) r).1)
     ]
 
-bytes_true : (a b : List ℕ) → before_by_bytes a b ≡ true → ByBytes a b
+bytes_true : (a b : List ℕ) → comes_before_by_bytes a b ≡ true → ByBytes a b
 bytes_true [] b h = tt
 bytes_true (x ∷ a) [] h = absurd (false≢true h)
 bytes_true (x ∷ a) (y ∷ b) h =
-    elim (or_cases (ltb x y) (eqb x y && before_by_bytes a b) h) [
+    elim (or_cases (ltb x y) (eqb x y && comes_before_by_bytes a b) h) [
       | inl l ↦ inl (ltb-true x y l)
-      | inr r ↦ inr (eqb-true x y (and_left (eqb x y) (before_by_bytes a b) r), bytes_true a b (and_right (eqb x y) (before_by_bytes a b) r))
+      | inr r ↦ inr (eqb-true x y (and_parts (eqb x y) (comes_before_by_bytes a b) r).0, bytes_true a b (and_parts (eqb x y) (comes_before_by_bytes a b) r).1)
     ]
 
-bytes_false : (a b : List ℕ) → length a ≡ length b → before_by_bytes a b ≡ false → ByBytes b a
+bytes_false : (a b : List ℕ) → length a ≡ length b → comes_before_by_bytes a b ≡ false → ByBytes b a
 bytes_false [] [] e h = tt
 bytes_false [] (y ∷ b) e h = absurd cc
 bytes_false (x ∷ a) [] e h = absurd cc
@@ -128,14 +115,14 @@ bytes_false (x ∷ a) (y ∷ b) e h =
       ]
     ]
 
-before_true : (a b : List ℕ) → before a b ≡ true → NotAfter a b
+before_true : (a b : List ℕ) → comes_before a b ≡ true → NotAfter a b
 before_true a b h =
-    elim (or_cases (ltb (length a) (length b)) (eqb (length a) (length b) && before_by_bytes a b) h) [
+    elim (or_cases (ltb (length a) (length b)) (eqb (length a) (length b) && comes_before_by_bytes a b) h) [
       | inl l ↦ inl (ltb-true _ _ l)
-      | inr r ↦ inr (eqb-true _ _ (and_left (eqb (length a) (length b)) (before_by_bytes a b) r), bytes_true a b (and_right (eqb (length a) (length b)) (before_by_bytes a b) r))
+      | inr r ↦ inr (eqb-true _ _ (and_parts (eqb (length a) (length b)) (comes_before_by_bytes a b) r).0, bytes_true a b (and_parts (eqb (length a) (length b)) (comes_before_by_bytes a b) r).1)
     ]
 
-before_false : (a b : List ℕ) → before a b ≡ false → NotAfter b a
+before_false : (a b : List ℕ) → comes_before a b ≡ false → NotAfter b a
 before_false a b h =
     elim (cases_lt (length b) (length a)) [
       | inl lt ↦ inl lt
@@ -146,7 +133,7 @@ before_false a b h =
     ]
 
 lesser_both : (a b : List ℕ) → NotAfter (lesser a b) a × NotAfter (lesser a b) b
-lesser_both a b = cond_both (before b a) b a (λ x. NotAfter x a × NotAfter x b) (λ e. (before_true b a e, NotAfter-refl b)) (λ e. (NotAfter-refl a, before_false b a e))
+lesser_both a b = cond_both (comes_before b a) b a (λ x. NotAfter x a × NotAfter x b) (λ e. (before_true b a e, NotAfter-refl b)) (λ e. (NotAfter-refl a, before_false b a e))
 
 -- ---- the least of several
 
@@ -169,7 +156,7 @@ picked_later : (t : List ℕ) (f : Form) (fs : List Form) → Picked t fs → Pi
 picked_later t f fs p = record { form = p.form; among = inr p.among; is = p.is }
 
 lesser_is : (a b : List ℕ) → (lesser a b ≡ a) ⊎ (lesser a b ≡ b)
-lesser_is a b = cond_both (before b a) b a (λ x. (x ≡ a) ⊎ (x ≡ b)) (λ e. inr refl) (λ e. inl refl)
+lesser_is a b = cond_both (comes_before b a) b a (λ x. (x ≡ a) ⊎ (x ≡ b)) (λ e. inr refl) (λ e. inl refl)
 
 pub picks_one : (a : List ℕ) (fs : List Form) → (picks a fs ≡ a) ⊎ Picked (picks a fs) fs
 picks_one a [] = inl refl
@@ -186,8 +173,3 @@ picks_one a (f ∷ fs) =
 pub joined : (a : List ℕ) (fs gs : List Form) → picks a (fs ++ gs) ≡ picks (picks a fs) gs
 joined a [] gs = refl
 joined a (f ∷ fs) gs = joined (lesser a (form_best f)) fs gs
-
--- ---- a front
-
-pub front_short : (n : ℕ) (xs : List ℕ) → n ≤ length xs → length (take n xs) ≤ 15 → n ≤ 15
-front_short n xs h s = let l = length-take-le n xs h in omega arith

@@ -1,6 +1,6 @@
 -- The best operand is an operand, with its middle field, and says the address.
-use Rattle.std.proofs.Common.{◌≡◌, ℕ, ◌+◌, ◌*◌, ◌/◌, ◌%◌, ◌^◌, ◌<◌, Bool, true, false, cond, ltb, eqb, List, ◌∷◌, ◌++◌, Option, Some, None, refl, sym, ap, subst, ◌∙◌, lit<, arith}
-use Rattle.std.proofs.lemmas.Bool.{cond_both, false≢true, eqb-true, ltb-true, lt-ltb, le-ltb}
+use Rattle.std.proofs.Common.{◌≡◌, ℕ, ◌+◌, ◌*◌, ◌/◌, ◌%◌, ◌^◌, ◌<◌, Bool, true, false, cond, ltb, eqb, List, [], ◌∷◌, ◌++◌, Option, Some, None, refl, sym, ap, subst, ◌∙◌, lit<, arith}
+use Rattle.std.proofs.lemmas.Bool.{cond_both, false≢true, eqb-true, ltb-true, lt-ltb, le-ltb, and_parts}
 use Rattle.std.specs.Prelude.{IfSome}
 use Rattle.x86_types.specs.declared.operand.Reg.{Reg}
 use Rattle.x86_types.specs.declared.operand.Reg.TheVariants as reg
@@ -14,7 +14,6 @@ use Rattle.x86_grammar.specs.Parts.{signed}
 use Rattle.x86_grammar.specs.Operand.{Operand, IsOperand, operand_bytes, le, sibs, has_sib, disp_size, disp_of, base_of, index_of, scale_of, address, rm_of}
 use Rattle.x86_encode.specs.BestOperand.{class_of, best_mod, best_size, best_rm, best_sib, best_m, best_bytes, wants_sib, low, raw}
 use Rattle.x86_encode.specs.BestForm.{best_operand}
-use Rattle.x86_encode.proofs.Ordering.{and_left, and_right}
 use Rattle.x86_encode.proofs.OperandTest.{class_small, sib_same, base_same, index_same, size_same}
 use Rattle.x86_encode.proofs.RoundTest.{Says, best_says}
 
@@ -94,10 +93,10 @@ module _ (n : ℕ) (small : n < 8) (a : Address) (ok : address_fits a ≡ true) 
   d = raw size a.disp
 
   said : Says m0 sib a.base a.index a.scale size
-  said = best_says a.base a.index a.scale c (and_left (index_fits a.index a.scale) (number_fits Four a.disp) ok) (class_small a.disp)
+  said = best_says a.base a.index a.scale c (and_parts (index_fits a.index a.scale) (number_fits Four a.disp) ok).0 (class_small a.disp)
 
   disp_again : Again size a.disp
-  disp_again = again a.base a.disp (ltb-true _ _ (and_right (index_fits a.index a.scale) (number_fits Four a.disp) ok))
+  disp_again = again a.base a.disp (ltb-true _ _ (and_parts (index_fits a.index a.scale) (number_fits Four a.disp) ok).1)
 
   same64 : m / 64 ≡ m0 / 64
   same64 = let r = rm_low a.base a.index in omega (arith, r, small)
@@ -141,39 +140,34 @@ module _ (n : ℕ) (small : n < 8) (a : Address) (ok : address_fits a ≡ true) 
         bytes_are = same_bytes m sib d (has_sib m) (wants_sib a.base a.index) (disp_size m sib) size sib_is size_is;
       }
 
+-- an operand that is ModRM alone
+alone_shown : (n m : ℕ) (x : Option Rm) → m < 256 → m / 8 % 8 ≡ n → has_sib m ≡ false → disp_size m 0 ≡ 0 → IfSome x (λ r. rm_of m 0 0 ≡ r) → Shown n x (m ∷ [])
+alone_shown n m x low middle none size rm =
+    record {
+      operand = record { m = m; sib = 0; disp = 0 };
+      is = record { m = low; sib = lit< tt; none = λ e. refl; disp = subst (λ (k : ℕ). 0 < 256 ^ k) (sym size) (lit< tt) };
+      middle = middle;
+      rm = rm;
+      bytes_are = same_bytes m 0 0 (has_sib m) false (disp_size m 0) 0 none size;
+    }
+
 module _ (again : (r : Reg) → reg_of (number_of_reg r) ≡ r) (n : ℕ) (small : n < 8) where
   reg_shown : (r : Reg) → Shown n (Some (rm.Reg r)) (best_operand (Some (rm.Reg r)) n)
   reg_shown r =
       let l = reg_low r in
       let m = 192 + (8 * n + number_of_reg r) in
       let high : ltb m 192 ≡ false = le-ltb m 192 (omega arith) in
-      let base : m % 8 ≡ number_of_reg r = omega arith in
+      let low : m % 8 ≡ number_of_reg r = omega arith in
       let top : m / 64 ≡ 3 = omega arith in
-      let size : disp_size m 0 ≡ 0 = rw top refl in
-      let none : has_sib m ≡ false = rw high refl in
-      record {
-        operand = record { m = m; sib = 0; disp = 0 };
-        is = record { m = omega arith; sib = lit< tt; none = λ e. refl; disp = subst (λ (k : ℕ). 0 < 256 ^ k) (sym size) (lit< tt) };
-        middle = omega arith;
-        rm = rw (high, base, again) refl;
-        bytes_are = same_bytes m 0 0 (has_sib m) false (disp_size m 0) 0 none size;
-      }
+      alone_shown n m (Some (rm.Reg r)) (omega arith) (omega arith) (rw high refl) (rw top refl) (rw (high, low, again) refl)
 
   none_shown : Shown n None (best_operand None n)
   none_shown =
       let m = 8 * n in
       let below : ltb m 192 ≡ true = lt-ltb m 192 (omega arith) in
-      let base : m % 8 ≡ 0 = omega arith in
+      let low : m % 8 ≡ 0 = omega arith in
       let top : m / 64 ≡ 0 = omega arith in
-      let none : has_sib m ≡ false = rw (below, base) refl in
-      let size : disp_size m 0 ≡ 0 = rw (top, below, base) refl in
-      record {
-        operand = record { m = m; sib = 0; disp = 0 };
-        is = record { m = omega arith; sib = lit< tt; none = λ e. refl; disp = subst (λ (k : ℕ). 0 < 256 ^ k) (sym size) (lit< tt) };
-        middle = omega arith;
-        rm = tt;
-        bytes_are = same_bytes m 0 0 (has_sib m) false (disp_size m 0) 0 none size;
-      }
+      alone_shown n m None (omega arith) (omega arith) (rw (below, low) refl) (rw (top, below, low) refl) tt
 
   pub operand_shown : (x : Option Rm) → IfSome x (λ r. rm_fits r ≡ true) → Shown n x (best_operand x n)
   operand_shown None h = none_shown

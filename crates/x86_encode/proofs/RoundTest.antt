@@ -1,13 +1,12 @@
 -- The best operand says the address, tested at each base, index, scale and class.
 use Rattle.std.proofs.Common.{◌≡◌, ℕ, zero, suc, ◌+◌, ◌*◌, ◌/◌, ◌%◌, ◌<◌, Bool, true, false, cond, not, ltb, eqb, ◌&&◌, ◌||◌, Option, Some, None, refl, sym, ap, subst, ◌∙◌, inl, inr, lit<, arith}
-use Rattle.std.proofs.lemmas.Bool.{agree_below, agree_below_at, false≢true, eqb-true, ltb-true}
+use Rattle.std.proofs.lemmas.Bool.{agree_below, agree_below_at, false≢true, eqb-true, ltb-true, and_parts, or_cases}
 use Rattle.x86_types.specs.declared.operand.Reg.{Reg}
 use Rattle.x86_types.specs.declared.operand.Reg.TheVariants as reg
 use Rattle.x86_types.specs.Numbers.{reg_of, number_of_reg}
 use Rattle.x86_grammar.specs.Fields.{scale_fits, index_fits}
 use Rattle.x86_grammar.specs.Operand.{has_sib, disp_size, base_of, index_of, scale_of, scale_in}
 use Rattle.x86_encode.specs.BestOperand.{best_mod, best_size, best_rm, best_sib, wants_sib}
-use Rattle.x86_encode.proofs.Ordering.{and_left, and_right, or_cases}
 
 -- 8 for none
 abbrev reg_at : ℕ → Option Reg
@@ -91,21 +90,21 @@ both_there b i s h =
 
 some_scale : (b : Option Reg) (r : Reg) (s : ℕ) → scale_fits s ≡ true → all_scales b (Some r) ≡ true → all_classes b (Some r) s ≡ true
 some_scale b r s h t =
-    let t1 = and_right (all_classes b (Some r) 1) (all_classes b (Some r) 2 && (all_classes b (Some r) 4 && all_classes b (Some r) 8)) t in
-    let t2 = and_right (all_classes b (Some r) 2) (all_classes b (Some r) 4 && all_classes b (Some r) 8) t1 in
+    let t1 = (and_parts (all_classes b (Some r) 1) (all_classes b (Some r) 2 && (all_classes b (Some r) 4 && all_classes b (Some r) 8)) t).1 in
+    let t2 = (and_parts (all_classes b (Some r) 2) (all_classes b (Some r) 4 && all_classes b (Some r) 8) t1).1 in
     elim (or_cases (eqb s 1 || eqb s 2 || eqb s 4) (eqb s 8) h) [
-      | inr e ↦ rw (eqb-true s 8 e) (and_right (all_classes b (Some r) 4) (all_classes b (Some r) 8) t2)
+      | inr e ↦ rw (eqb-true s 8 e) (and_parts (all_classes b (Some r) 4) (all_classes b (Some r) 8) t2).1
       | inl h ↦ elim (or_cases (eqb s 1 || eqb s 2) (eqb s 4) h) [
-        | inr e ↦ rw (eqb-true s 4 e) (and_left (all_classes b (Some r) 4) (all_classes b (Some r) 8) t2)
+        | inr e ↦ rw (eqb-true s 4 e) (and_parts (all_classes b (Some r) 4) (all_classes b (Some r) 8) t2).0
         | inl h ↦ elim (or_cases (eqb s 1) (eqb s 2) h) [
-          | inl e ↦ rw (eqb-true s 1 e) (and_left (all_classes b (Some r) 1) (all_classes b (Some r) 2 && (all_classes b (Some r) 4 && all_classes b (Some r) 8)) t)
-          | inr e ↦ rw (eqb-true s 2 e) (and_left (all_classes b (Some r) 2) (all_classes b (Some r) 4 && all_classes b (Some r) 8) t1)
+          | inl e ↦ rw (eqb-true s 1 e) (and_parts (all_classes b (Some r) 1) (all_classes b (Some r) 2 && (all_classes b (Some r) 4 && all_classes b (Some r) 8)) t).0
+          | inr e ↦ rw (eqb-true s 2 e) (and_parts (all_classes b (Some r) 2) (all_classes b (Some r) 4 && all_classes b (Some r) 8) t1).0
         ]
       ]
     ]
 
 scale_there : (b i : Option Reg) (s : ℕ) → index_fits i s ≡ true → all_scales b i ≡ true → all_classes b i s ≡ true
-scale_there b None s h t = rw (eqb-true s 1 h) (and_left (all_classes b None 1) (all_classes b None 1 && (all_classes b None 1 && all_classes b None 1)) t)
+scale_there b None s h t = rw (eqb-true s 1 h) (and_parts (all_classes b None 1) (all_classes b None 1 && (all_classes b None 1 && all_classes b None 1)) t).0
 scale_there b (Some reg.Esp) s h t = absurd (false≢true h)
 scale_there b (Some reg.Eax) s h t = some_scale b reg.Eax s h t
 scale_there b (Some reg.Ecx) s h t = some_scale b reg.Ecx s h t
@@ -116,9 +115,9 @@ scale_there b (Some reg.Esi) s h t = some_scale b reg.Esi s h t
 scale_there b (Some reg.Edi) s h t = some_scale b reg.Edi s h t
 
 class_there : (b i : Option Reg) (s c : ℕ) → c < 3 → all_classes b i s ≡ true → right b i s c ≡ true
-class_there b i s zero lt t = and_left (right b i s 0) (right b i s 1 && right b i s 2) t
-class_there b i s (suc zero) lt t = and_left (right b i s 1) (right b i s 2) (and_right (right b i s 0) (right b i s 1 && right b i s 2) t)
-class_there b i s (suc (suc zero)) lt t = and_right (right b i s 1) (right b i s 2) (and_right (right b i s 0) (right b i s 1 && right b i s 2) t)
+class_there b i s zero lt t = (and_parts (right b i s 0) (right b i s 1 && right b i s 2) t).0
+class_there b i s (suc zero) lt t = (and_parts (right b i s 1) (right b i s 2) (and_parts (right b i s 0) (right b i s 1 && right b i s 2) t).1).0
+class_there b i s (suc (suc zero)) lt t = (and_parts (right b i s 1) (right b i s 2) (and_parts (right b i s 0) (right b i s 1 && right b i s 2) t).1).1
 class_there b i s (suc (suc (suc c))) lt t = absurd (omega arith)
 
 alike_true : (a b : Bool) → alike a b ≡ true → a ≡ b

@@ -26,7 +26,7 @@ use Rattle.x86_encode.proofs.ReadBack.{Shown, operand_shown}
 
 -- ---- the prefixes
 
-prefixes_short : (h p : Bool) → length (best_prefixes h p) ≤ 2
+pub prefixes_short : (h p : Bool) → length (best_prefixes h p) ≤ 2
 prefixes_short true true = lit≤ tt
 prefixes_short true false = lit≤ tt
 prefixes_short false true = lit≤ tt
@@ -58,12 +58,12 @@ rep_there false false = refl
 
 -- ---- the lengths
 
-size_small : (w : Width) → size_of w ≤ 4
+pub size_small : (w : Width) → size_of w ≤ 4
 size_small One = lit≤ tt
 size_small Two = lit≤ tt
 size_small Four = lit≤ tt
 
-imm_small : (r : Row) (h : Bool) → imm_size r h ≤ 4
+pub imm_small : (r : Row) (h : Bool) → imm_size r h ≤ 4
 imm_small (row.AluAcc op f) h = size_small (width_of f h)
 imm_small (row.AluImm f) h = size_small (width_of f h)
 imm_small (row.TestAcc f) h = size_small (width_of f h)
@@ -73,7 +73,7 @@ imm_small (row.MovImm f) h = size_small (width_of f h)
 imm_small row.ImulWord h = size_small (width_of true h)
 imm_small _ h = lit≤ tt
 
-opcode_short : (k : ℕ) → length (opcode_bytes k) ≤ 2
+pub opcode_short : (k : ℕ) → length (opcode_bytes k) ≤ 2
 opcode_short k = cond_both (ltb k 256) (k ∷ []) (15 ∷ (k - 256) ∷ []) (λ x. length x ≤ 2) (λ e. lit≤ tt) (λ e. lit≤ tt)
 
 sibs_short : (b : Bool) (s : ℕ) → length (sibs b s) ≤ 1
@@ -87,7 +87,7 @@ class_size (Some r) d =
     (λ e. cond_both (eqb (number_of_reg r) 5) 1 0 (λ s. s ≤ 4) (λ f. lit≤ tt) (λ f. lit≤ tt))
     (λ e. cond_both (eqb (signed Four (d % 256)) d) 1 2 (λ c. best_size (Some r) c ≤ 4) (λ f. lit≤ tt) (λ f. lit≤ tt))
 
-part_short : (b : Bool) (o : Option Rm) (n : ℕ) → length (best_part b o n) ≤ 6
+pub part_short : (b : Bool) (o : Option Rm) (n : ℕ) → length (best_part b o n) ≤ 6
 part_short false o n = lit≤ tt
 part_short true None n = lit≤ tt
 part_short true (Some (rm.Reg r)) n = lit≤ tt

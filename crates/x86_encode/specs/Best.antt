@@ -6,6 +6,7 @@ use Rattle.x86_grammar.specs.declared.row.Row.TheVariants as row
 use Rattle.x86_grammar.specs.Spells.{Spells}
 use Rattle.x86_encode.specs.Order.{Before}
 
+-- the bytes spell the instruction, and each other spelling comes after them
 pub record IsBest (i : Instr) (t : List ℕ) : Type 0 where
   pub spells : Spells t i
   pub first : (u : List ℕ) → Spells u i → (t ≡ u) ⊎ Before t u
@@ -21,6 +22,7 @@ pub record SpellsWide (t : List ℕ) (i : Instr) : Type 0 where
   pub spells : Spells t i
   pub wide : is_short spells.spelling.form.row ≡ false
 
+-- the same among the spellings without short jumps
 pub record IsBestWide (i : Instr) (t : List ℕ) : Type 0 where
   pub spells : SpellsWide t i
   pub first : (u : List ℕ) → SpellsWide u i → (t ≡ u) ⊎ Before t u

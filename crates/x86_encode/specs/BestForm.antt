@@ -10,21 +10,24 @@ use Rattle.x86_grammar.specs.Operand.{le}
 use Rattle.x86_grammar.specs.Spells.{opcode_bytes}
 use Rattle.x86_encode.specs.BestOperand.{best_bytes}
 
+-- 66 where the operand size is two bytes, and F3 behind it where it stands
 abbrev pub best_prefixes : Bool → Bool → List ℕ
 best_prefixes false false = []
-best_prefixes true false = 102 ∷ []
-best_prefixes false true = 243 ∷ []
-best_prefixes true true = 102 ∷ 243 ∷ []
+best_prefixes true false = 0x66 ∷ []
+best_prefixes false true = 0xF3 ∷ []
+best_prefixes true true = 0x66 ∷ 0xF3 ∷ []
 
--- any operand will do where none is named
+-- the operand's bytes with that middle field; where the form names none any operand will do, and [EAX] is the first
 abbrev pub best_operand : Option Rm → ℕ → List ℕ
 best_operand None n = 8 * n ∷ []
-best_operand (Some (rm.Reg r)) n = (192 + (8 * n + number_of_reg r)) ∷ []
+best_operand (Some (rm.Reg r)) n = (0xC0 + (8 * n + number_of_reg r)) ∷ []
 best_operand (Some (rm.Mem a)) n = best_bytes n a
 
+-- the operand, where the row has one
 abbrev pub best_part : Bool → Option Rm → ℕ → List ℕ
 best_part false o n = []
 best_part true o n = best_operand o n
 
+-- the form's first spelling in the order of lengths and bytes
 abbrev pub form_best : Form → List ℕ
 form_best f = best_prefixes f.half f.rep ++ (opcode_bytes (key_of f.row) ++ (best_part (has_operand f.row) f.rm f.middle ++ le (imm_size f.row f.half) f.imm))

@@ -8,58 +8,68 @@ use Rattle.x86_types.specs.Numbers.{number_of_reg}
 use Rattle.x86_grammar.specs.Parts.{signed}
 use Rattle.x86_grammar.specs.Operand.{sibs, le}
 
--- 0 for no displacement, 1 for one that fits a byte, 2 for the rest
+-- the class of a displacement: 0 where it is zero, 1 where it is a byte with its sign, 2 for the rest
 abbrev pub class_of : ℕ → ℕ
 class_of d = if d == 0 then 0 else (if signed Four (d % 256) == d then 1 else 2)
 
--- mod, by the base and the class
+-- the mod field of ModRM, by the base and the class; with EBP as the base a displacement must stand
 abbrev pub best_mod : Option Reg → ℕ → ℕ
 best_mod None class = 0
 best_mod (Some b) class = if (class == 0) && (number_of_reg b == 5) then 1 else class
 
+-- the bytes of the displacement; without a base there are four
 abbrev pub best_size : Option Reg → ℕ → ℕ
 best_size None class = 4
 best_size (Some b) class = if class == 2 then 4 else best_mod (Some b) class
 
+-- the field that names the base, 5 where there is none
 abbrev pub low : Option Reg → ℕ
 low None = 5
 low (Some b) = number_of_reg b
 
--- whether SIB is wanted
+-- whether SIB must stand: with an index, and with ESP as the base
 abbrev pub wants_sib : Option Reg → Option Reg → Bool
 wants_sib base (Some x) = true
 wants_sib base None = low base == 4
 
+-- the r/m field of ModRM, 4 where SIB stands
 abbrev pub best_rm : Option Reg → Option Reg → ℕ
 best_rm base index = if wants_sib base index then 4 else low base
 
+-- the index field of SIB, 4 where there is no index
 abbrev pub index_field : Option Reg → ℕ
 index_field None = 4
 index_field (Some x) = number_of_reg x
 
+-- the scale field of SIB
 abbrev pub scale_field : ℕ → ℕ
 scale_field (suc zero) = 0
 scale_field (suc (suc zero)) = 1
 scale_field (suc (suc (suc (suc zero)))) = 2
 scale_field _ = 3
 
+-- SIB, or 0 where it doesn't stand
 abbrev pub best_sib : Option Reg → Option Reg → ℕ → ℕ
 best_sib base index scale = if wants_sib base index then 64 * scale_field scale + (8 * index_field index + low base) else 0
 
+-- the displacement as a number of that many bytes
 abbrev pub raw : ℕ → ℕ → ℕ
 raw zero d = 0
 raw (suc zero) d = d % 256
 raw (suc (suc n)) d = d
 
+-- ModRM with that middle field
 abbrev pub best_m : ℕ → Address → ℕ
 best_m n a = 64 * best_mod a.base (class_of a.disp) + (8 * n + best_rm a.base a.index)
 
+-- SIB where it must stand
 abbrev pub best_sibs : Address → List ℕ
 best_sibs a = sibs (wants_sib a.base a.index) (best_sib a.base a.index a.scale)
 
+-- the bytes of the displacement, the lowest first
 abbrev pub best_disp : Address → List ℕ
 best_disp a = le (best_size a.base (class_of a.disp)) (raw (best_size a.base (class_of a.disp)) a.disp)
 
--- ModRM, SIB and the displacement, with that middle field
+-- ModRM with that middle field, SIB and the displacement
 abbrev pub best_bytes : ℕ → Address → List ℕ
 best_bytes n a = best_m n a ∷ (best_sibs a ++ best_disp a)

@@ -1,11 +1,9 @@
 // The forms of the instructions that compute, but for INC and DEC.
-ghost use Rattle.std.specs.Prelude.{◌≡◌};
 ghost use Rattle.x86_types.specs.declared.operand.Src.TheVariants as src;
 ghost use Rattle.x86_types.specs.declared.operation.Count.TheVariants as count;
 ghost use Rattle.x86_grammar.specs.Forms as forms;
 ghost use Rattle.x86_grammar.specs.Parts as parts;
-ghost use Rattle.x86_encode.specs.Choice.{picks};
-ghost use Rattle.x86_encode.specs.Text.{text};
+ghost use Rattle.x86_encode.specs.Text.{AreOffered};
 
 use crate::offer::{offer_plain, offer_rm};
 use crate::parts::{is_full, is_signed_byte};
@@ -16,7 +14,7 @@ use x86_types::{
 };
 
 fn alu_from_reg(best: &mut Text, op: AluOp, width: Width, to: Rm, from: Reg)
-    ensures { text best.new ≡ picks (text best.old) (forms.alu_forms op width to (src.Reg from)) }
+    ensures { AreOffered (forms.alu_forms op width to (src.Reg from)) best.old best.new }
 {
     let full = is_full(width);
     offer_rm(best, Row::AluToRm(op, full), width, reg_number(from), to, 0);
@@ -33,7 +31,7 @@ fn alu_from_reg(best: &mut Text, op: AluOp, width: Width, to: Rm, from: Reg)
 }
 
 fn alu_from_mem(best: &mut Text, op: AluOp, width: Width, to: Rm, from: Address)
-    ensures { text best.new ≡ picks (text best.old) (forms.alu_forms op width to (src.Mem from)) }
+    ensures { AreOffered (forms.alu_forms op width to (src.Mem from)) best.old best.new }
 {
     if let Rm::Reg(reg) = to {
         let row = Row::AluToReg(op, is_full(width));
@@ -42,7 +40,7 @@ fn alu_from_mem(best: &mut Text, op: AluOp, width: Width, to: Rm, from: Address)
 }
 
 fn offer_acc(best: &mut Text, to: Rm, row: Row, width: Width, imm: u32)
-    ensures { text best.new ≡ picks (text best.old) (parts.if_acc to (parts.plain row width imm)) }
+    ensures { AreOffered (parts.if_acc to (parts.plain row width imm)) best.old best.new }
 {
     match to {
         Rm::Reg(Reg::Eax) => offer_plain(best, row, width, imm),
@@ -51,7 +49,7 @@ fn offer_acc(best: &mut Text, to: Rm, row: Row, width: Width, imm: u32)
 }
 
 fn alu_byte(best: &mut Text, op: AluOp, width: Width, to: Rm, value: u32)
-    ensures { text best.new ≡ picks (text best.old) (forms.alu_byte width op to value) }
+    ensures { AreOffered (forms.alu_byte width op to value) best.old best.new }
 {
     match width {
         Width::One => {}
@@ -65,7 +63,7 @@ fn alu_byte(best: &mut Text, op: AluOp, width: Width, to: Rm, value: u32)
 
 #[tactic(auto, using(crate::proofs::Ordering::joined))]
 fn alu_from_imm(best: &mut Text, op: AluOp, width: Width, to: Rm, value: u32)
-    ensures { text best.new ≡ picks (text best.old) (forms.alu_forms op width to (src.Imm value)) }
+    ensures { AreOffered (forms.alu_forms op width to (src.Imm value)) best.old best.new }
 {
     let full = is_full(width);
     offer_rm(best, Row::AluImm(full), width, alu_number(op), to, value);
@@ -75,7 +73,7 @@ fn alu_from_imm(best: &mut Text, op: AluOp, width: Width, to: Rm, value: u32)
 
 /// ADD, OR, ADC, SBB, AND, SUB, XOR and CMP.
 pub(crate) fn alu(best: &mut Text, op: AluOp, width: Width, to: Rm, from: Src)
-    ensures { text best.new ≡ picks (text best.old) (forms.alu_forms op width to from) }
+    ensures { AreOffered (forms.alu_forms op width to from) best.old best.new }
 {
     match from {
         Src::Reg(reg) => alu_from_reg(best, op, width, to, reg),
@@ -86,7 +84,7 @@ pub(crate) fn alu(best: &mut Text, op: AluOp, width: Width, to: Rm, from: Src)
 
 /// TEST.
 pub(crate) fn test(best: &mut Text, width: Width, left: Rm, right: Src)
-    ensures { text best.new ≡ picks (text best.old) (forms.test_forms width left right) }
+    ensures { AreOffered (forms.test_forms width left right) best.old best.new }
 {
     let full = is_full(width);
     match right {
@@ -101,7 +99,7 @@ pub(crate) fn test(best: &mut Text, width: Width, left: Rm, right: Src)
 
 /// A row with a register in the middle field, at widths Two and Four.
 pub(crate) fn to_reg(best: &mut Text, row: Row, width: Width, to: Reg, from: Rm)
-    ensures { text best.new ≡ picks (text best.old) (forms.to_reg row width to from) }
+    ensures { AreOffered (forms.to_reg row width to from) best.old best.new }
 {
     match width {
         Width::One => {}
@@ -111,7 +109,7 @@ pub(crate) fn to_reg(best: &mut Text, row: Row, width: Width, to: Reg, from: Rm)
 
 /// IMUL of three operands.
 pub(crate) fn imul_by(best: &mut Text, width: Width, to: Reg, from: Rm, by: u32)
-    ensures { text best.new ≡ picks (text best.old) (forms.imul_by_forms width to from by) }
+    ensures { AreOffered (forms.imul_by_forms width to from by) best.old best.new }
 {
     match width {
         Width::One => {}
@@ -126,7 +124,7 @@ pub(crate) fn imul_by(best: &mut Text, width: Width, to: Reg, from: Rm, by: u32)
 
 /// SHL, SHR, SAR, ROL and ROR.
 pub(crate) fn shift(best: &mut Text, op: ShiftOp, width: Width, to: Rm, count: Count)
-    ensures { text best.new ≡ picks (text best.old) (forms.shift_forms op width to count) }
+    ensures { AreOffered (forms.shift_forms op width to count) best.old best.new }
 {
     let full = is_full(width);
     let middle = shift_number(op);
@@ -150,7 +148,7 @@ pub(crate) fn shift(best: &mut Text, op: ShiftOp, width: Width, to: Rm, count: C
 
 /// SHLD and SHRD, by their rows for a constant and for Cl.
 pub(crate) fn double(best: &mut Text, imm: Row, cl: Row, to: Rm, from: Reg, count: Count)
-    ensures { text best.new ≡ picks (text best.old) (forms.double_forms imm cl to from count) }
+    ensures { AreOffered (forms.double_forms imm cl to from count) best.old best.new }
 {
     let middle = reg_number(from);
     match count {

@@ -1,6 +1,5 @@
-ghost use Rattle.std.specs.Prelude.{◌≡◌};
-ghost use Rattle.x86_encode.specs.Choice.{forms_at, picks};
-ghost use Rattle.x86_encode.specs.Text.{text};
+ghost use Rattle.x86_encode.specs.Choice.{forms_at};
+ghost use Rattle.x86_encode.specs.Text.{AreOffered};
 
 use crate::arithmetic::{alu, double, imul_by, shift, test, to_reg};
 use crate::jumps::{jcc, jmp, nop, ret};
@@ -15,7 +14,7 @@ use x86_types::{Instr, Width};
 /// Offers each form of the instruction, without the short jumps where `wide`: `best` becomes the first
 /// in order of what it was and of each form's best text.
 pub(crate) fn offer_forms(best: &mut Text, wide: bool, instr: Instr)
-    ensures { text best.new ≡ picks (text best.old) (forms_at wide instr) }
+    ensures { AreOffered (forms_at wide instr) best.old best.new }
 {
     match instr {
         Instr::Alu {

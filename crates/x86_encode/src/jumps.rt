@@ -1,9 +1,8 @@
 // The forms of jumps, RET and NOP.
-ghost use Rattle.std.specs.Prelude.{◌≡◌};
 ghost use Rattle.x86_types.specs.declared.instr.Instr.TheVariants as instr;
 ghost use Rattle.x86_grammar.specs.Forms as forms;
-ghost use Rattle.x86_encode.specs.Choice.{forms_at, picks};
-ghost use Rattle.x86_encode.specs.Text.{text};
+ghost use Rattle.x86_encode.specs.Choice.{forms_at};
+ghost use Rattle.x86_encode.specs.Text.{AreOffered};
 
 use crate::offer::{offer_plain, offer_repeated};
 use crate::parts::is_signed_byte;
@@ -13,7 +12,7 @@ use x86_types::{Cond, Width};
 
 /// JMP, relative.
 pub(crate) fn jmp(best: &mut Text, wide: bool, by: u32)
-    ensures { text best.new ≡ picks (text best.old) (forms_at wide (instr.Jmp by)) }
+    ensures { AreOffered (forms_at wide (instr.Jmp by)) best.old best.new }
 {
     offer_plain(best, Row::JmpNear, Width::Four, by);
     if !wide && is_signed_byte(Width::Four, by) {
@@ -23,7 +22,7 @@ pub(crate) fn jmp(best: &mut Text, wide: bool, by: u32)
 
 /// Jcc.
 pub(crate) fn jcc(best: &mut Text, wide: bool, cond: Cond, by: u32)
-    ensures { text best.new ≡ picks (text best.old) (forms_at wide (instr.Jcc cond by)) }
+    ensures { AreOffered (forms_at wide (instr.Jcc cond by)) best.old best.new }
 {
     offer_plain(best, Row::JccNear(cond), Width::Four, by);
     if !wide && is_signed_byte(Width::Four, by) {
@@ -33,7 +32,7 @@ pub(crate) fn jcc(best: &mut Text, wide: bool, cond: Cond, by: u32)
 
 /// RET.
 pub(crate) fn ret(best: &mut Text, drop: u16)
-    ensures { text best.new ≡ picks (text best.old) (forms.ret_forms drop) }
+    ensures { AreOffered (forms.ret_forms drop) best.old best.new }
 {
     match drop {
         0 => {
@@ -47,7 +46,7 @@ pub(crate) fn ret(best: &mut Text, drop: u16)
 
 /// NOP.
 pub(crate) fn nop(best: &mut Text)
-    ensures { text best.new ≡ picks (text best.old) (forms.forms instr.Nop) }
+    ensures { AreOffered (forms.forms instr.Nop) best.old best.new }
 {
     offer_plain(best, Row::Nop, Width::Four, 0);
     offer_plain(best, Row::NopLong, Width::Four, 0);

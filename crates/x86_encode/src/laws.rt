@@ -1,22 +1,26 @@
-ghost use Rattle.std.specs.Prelude.{◌≡◌, ℕ, List, length};
-ghost use Rattle.x86_types.specs.declared.instr.Instr.{Instr};
-ghost use Rattle.x86_types.specs.declared.instr.Instr.TheVariants as instr;
-ghost use Rattle.x86_types.specs.declared.operation.Cond.{Cond};
-ghost use Rattle.x86_encode.specs.Best.{IsBest, IsBestWide};
+ghost use Rattle.x86_encode.specs.Laws.{BestLaws, BestLengths};
+ghost use Rattle.x86_encode.specs.Worked.{WorkedBest};
 
 use x86_grammar::{forms_are_right, spelled_fields_fit};
 use x86_types::number_laws;
 
-/// An instruction has one best spelling, and one without short jumps. Without short jumps `Jmp` has
-/// five bytes, and `Jcc` six.
+/// An instruction that has a spelling has one best spelling and one best wide one, which `best` and
+/// `best_wide` compute; each has at most eleven bytes.
 pub fn best_laws()
-    ensures one { (i : Instr) (t u : List ℕ) → IsBest i t → IsBest i u → t ≡ u }
-    ensures one_wide { (i : Instr) (t u : List ℕ) → IsBestWide i t → IsBestWide i u → t ≡ u }
-    ensures jmp { (by : ℕ) (t : List ℕ) → IsBestWide (instr.Jmp by) t → length t ≡ 5 }
-    ensures jcc { (cond : Cond) (by : ℕ) (t : List ℕ) → IsBestWide (instr.Jcc cond by) t →
-        length t ≡ 6 }
+    ensures laws { BestLaws }
 {
     spelled_fields_fit();
     forms_are_right();
     number_laws();
 }
+
+/// How many bytes the best spellings of moves of four bytes have, and the best wide ones of jumps.
+pub fn best_lengths()
+    ensures lengths { BestLengths }
+{}
+
+/// Does nothing: its clause is best spellings that were worked by hand, each computed from the
+/// definitions.
+pub fn worked_best()
+    ensures rows { WorkedBest }
+{}

@@ -19,5 +19,5 @@ mod tests;
 mod text;
 
 pub use encoder::{encode, encode_wide};
-pub use laws::best_laws;
+pub use laws::{best_laws, best_lengths, worked_best};
 pub use read_back::{round_trip, round_trip_wide};

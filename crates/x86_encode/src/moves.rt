@@ -1,13 +1,12 @@
 // The forms of the instructions that move or widen.
-ghost use Rattle.std.specs.Prelude.{◌≡◌, ◌∷◌, []};
+ghost use Rattle.std.specs.Prelude.{◌∷◌, []};
 ghost use Rattle.x86_types.specs.declared.operand.Rm.TheVariants as rm;
 ghost use Rattle.x86_types.specs.declared.operand.Src.TheVariants as src;
 ghost use Rattle.x86_types.specs.declared.instr.Instr.TheVariants as instr;
 ghost use Rattle.x86_grammar.specs.declared.row.Row.TheVariants as row;
 ghost use Rattle.x86_grammar.specs.Forms as forms;
 ghost use Rattle.x86_grammar.specs.Parts as parts;
-ghost use Rattle.x86_encode.specs.Choice.{picks};
-ghost use Rattle.x86_encode.specs.Text.{text};
+ghost use Rattle.x86_encode.specs.Text.{AreOffered};
 
 use crate::offer::{offer_plain, offer_rm};
 use crate::parts::{is_full, is_signed_byte};
@@ -17,8 +16,8 @@ use x86_types::{Address, Reg, Rm, Src, Width, reg_number};
 
 /// A row whose number is the address, where the address is a number alone.
 fn offer_number(best: &mut Text, at: Address, row: Row, width: Width)
-    ensures { text best.new ≡ picks (text best.old)
-        (forms.number_only at.base at.index at.scale (parts.plain row width at.disp)) }
+    ensures { AreOffered
+        (forms.number_only at.base at.index at.scale (parts.plain row width at.disp)) best.old best.new }
 {
     match (at.base, at.index) {
         (None, None) => {
@@ -32,7 +31,7 @@ fn offer_number(best: &mut Text, at: Address, row: Row, width: Width)
 }
 
 fn load(best: &mut Text, width: Width, to: Reg, from: Address)
-    ensures { text best.new ≡ picks (text best.old) (forms.mov_load width to from) }
+    ensures { AreOffered (forms.mov_load width to from) best.old best.new }
 {
     match to {
         Reg::Eax => offer_number(best, from, Row::MovLoad(is_full(width)), width),
@@ -41,7 +40,7 @@ fn load(best: &mut Text, width: Width, to: Reg, from: Address)
 }
 
 fn store(best: &mut Text, width: Width, to: Rm, from: Reg)
-    ensures { text best.new ≡ picks (text best.old) (forms.mov_store width to from) }
+    ensures { AreOffered (forms.mov_store width to from) best.old best.new }
 {
     match from {
         Reg::Eax => match to {
@@ -53,7 +52,7 @@ fn store(best: &mut Text, width: Width, to: Rm, from: Reg)
 }
 
 fn mov_from_reg(best: &mut Text, width: Width, to: Rm, from: Reg)
-    ensures { text best.new ≡ picks (text best.old) (forms.mov_forms width to (src.Reg from)) }
+    ensures { AreOffered (forms.mov_forms width to (src.Reg from)) best.old best.new }
 {
     let full = is_full(width);
     offer_rm(best, Row::MovToRm(full), width, reg_number(from), to, 0);
@@ -74,7 +73,7 @@ fn mov_from_reg(best: &mut Text, width: Width, to: Rm, from: Reg)
 }
 
 fn mov_from_mem(best: &mut Text, width: Width, to: Rm, from: Address)
-    ensures { text best.new ≡ picks (text best.old) (forms.mov_forms width to (src.Mem from)) }
+    ensures { AreOffered (forms.mov_forms width to (src.Mem from)) best.old best.new }
 {
     if let Rm::Reg(reg) = to {
         let row = Row::MovToReg(is_full(width));
@@ -84,7 +83,7 @@ fn mov_from_mem(best: &mut Text, width: Width, to: Rm, from: Address)
 }
 
 fn mov_from_imm(best: &mut Text, width: Width, to: Rm, value: u32)
-    ensures { text best.new ≡ picks (text best.old) (forms.mov_forms width to (src.Imm value)) }
+    ensures { AreOffered (forms.mov_forms width to (src.Imm value)) best.old best.new }
 {
     let full = is_full(width);
     offer_rm(best, Row::MovImm(full), width, 0, to, value);
@@ -95,7 +94,7 @@ fn mov_from_imm(best: &mut Text, width: Width, to: Rm, value: u32)
 
 /// MOV.
 pub(crate) fn mov(best: &mut Text, width: Width, to: Rm, from: Src)
-    ensures { text best.new ≡ picks (text best.old) (forms.mov_forms width to from) }
+    ensures { AreOffered (forms.mov_forms width to from) best.old best.new }
 {
     match from {
         Src::Reg(reg) => mov_from_reg(best, width, to, reg),
@@ -106,7 +105,7 @@ pub(crate) fn mov(best: &mut Text, width: Width, to: Rm, from: Src)
 
 /// LEA.
 pub(crate) fn lea(best: &mut Text, width: Width, to: Reg, at: Address)
-    ensures { text best.new ≡ picks (text best.old) (forms.lea_forms width to at) }
+    ensures { AreOffered (forms.lea_forms width to at) best.old best.new }
 {
     match width {
         Width::One => {}
@@ -118,7 +117,7 @@ pub(crate) fn lea(best: &mut Text, width: Width, to: Reg, at: Address)
 
 /// PUSH.
 pub(crate) fn push(best: &mut Text, from: Src)
-    ensures { text best.new ≡ picks (text best.old) (forms.push_forms from) }
+    ensures { AreOffered (forms.push_forms from) best.old best.new }
 {
     match from {
         Src::Reg(reg) => {
@@ -137,7 +136,7 @@ pub(crate) fn push(best: &mut Text, from: Src)
 
 /// POP.
 pub(crate) fn pop(best: &mut Text, to: Rm)
-    ensures { text best.new ≡ picks (text best.old) (forms.forms (instr.Pop to)) }
+    ensures { AreOffered (forms.forms (instr.Pop to)) best.old best.new }
 {
     offer_rm(best, Row::Pop, Width::Four, 0, to, 0);
     if let Rm::Reg(reg) = to {
@@ -146,8 +145,8 @@ pub(crate) fn pop(best: &mut Text, to: Rm)
 }
 
 fn xchg_acc(best: &mut Text, width: Width, right: Reg)
-    ensures { text best.new ≡ picks (text best.old)
-        (forms.other_reg right (parts.plain (row.XchgAcc right) width 0)) }
+    ensures { AreOffered
+        (forms.other_reg right (parts.plain (row.XchgAcc right) width 0)) best.old best.new }
 {
     match right {
         Reg::Eax => {}
@@ -156,7 +155,7 @@ fn xchg_acc(best: &mut Text, width: Width, right: Reg)
 }
 
 fn xchg_short(best: &mut Text, width: Width, left: Rm, right: Reg)
-    ensures { text best.new ≡ picks (text best.old) (forms.xchg_short width left right) }
+    ensures { AreOffered (forms.xchg_short width left right) best.old best.new }
 {
     match left {
         Rm::Reg(Reg::Eax) => xchg_acc(best, width, right),
@@ -166,7 +165,7 @@ fn xchg_short(best: &mut Text, width: Width, left: Rm, right: Reg)
 
 /// XCHG.
 pub(crate) fn xchg(best: &mut Text, width: Width, left: Rm, right: Reg)
-    ensures { text best.new ≡ picks (text best.old) (forms.xchg_forms width left right) }
+    ensures { AreOffered (forms.xchg_forms width left right) best.old best.new }
 {
     offer_rm(
         best,
@@ -192,7 +191,7 @@ pub(crate) fn widen(
     to: Reg,
     from: Rm,
 )
-    ensures { text best.new ≡ picks (text best.old) (forms.widen_forms byte half wide width to from) }
+    ensures { AreOffered (forms.widen_forms byte half wide width to from) best.old best.new }
 {
     match (wide, width) {
         (Width::Two, Width::One) => offer_rm(best, byte, Width::Two, reg_number(to), from, 0),
@@ -204,8 +203,8 @@ pub(crate) fn widen(
 
 /// CBW, CWDE, CWD and CDQ, by their row: nothing stands behind its opcode.
 pub(crate) fn alone(best: &mut Text, row: Row, width: Width)
-    ensures { text best.new ≡ picks (text best.old)
-        (parts.not_one width (parts.plain row width 0 ∷ [])) }
+    ensures { AreOffered
+        (parts.not_one width (parts.plain row width 0 ∷ [])) best.old best.new }
 {
     match width {
         Width::One => {}

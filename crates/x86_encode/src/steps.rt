@@ -1,10 +1,8 @@
 // The forms of INC and DEC.
-ghost use Rattle.std.specs.Prelude.{◌≡◌};
 ghost use Rattle.x86_types.specs.declared.instr.Instr.TheVariants as instr;
 ghost use Rattle.x86_grammar.specs.declared.row.Row.TheVariants as row;
 ghost use Rattle.x86_grammar.specs.Forms as forms;
-ghost use Rattle.x86_encode.specs.Choice.{picks};
-ghost use Rattle.x86_encode.specs.Text.{text};
+ghost use Rattle.x86_encode.specs.Text.{AreOffered};
 
 use crate::offer::{offer_plain, offer_rm};
 use crate::parts::is_full;
@@ -13,7 +11,7 @@ use x86_grammar::Row;
 use x86_types::{Rm, Width};
 
 fn inc_short(best: &mut Text, width: Width, to: Rm)
-    ensures { text best.new ≡ picks (text best.old) (forms.short_step row.IncReg width to) }
+    ensures { AreOffered (forms.short_step row.IncReg width to) best.old best.new }
 {
     match width {
         Width::One => {}
@@ -26,7 +24,7 @@ fn inc_short(best: &mut Text, width: Width, to: Rm)
 }
 
 fn dec_short(best: &mut Text, width: Width, to: Rm)
-    ensures { text best.new ≡ picks (text best.old) (forms.short_step row.DecReg width to) }
+    ensures { AreOffered (forms.short_step row.DecReg width to) best.old best.new }
 {
     match width {
         Width::One => {}
@@ -40,7 +38,7 @@ fn dec_short(best: &mut Text, width: Width, to: Rm)
 
 /// INC.
 pub(crate) fn inc(best: &mut Text, width: Width, to: Rm)
-    ensures { text best.new ≡ picks (text best.old) (forms.forms (instr.Inc width to)) }
+    ensures { AreOffered (forms.forms (instr.Inc width to)) best.old best.new }
 {
     offer_rm(best, Row::Inc(is_full(width)), width, 0, to, 0);
     inc_short(best, width, to);
@@ -48,7 +46,7 @@ pub(crate) fn inc(best: &mut Text, width: Width, to: Rm)
 
 /// DEC.
 pub(crate) fn dec(best: &mut Text, width: Width, to: Rm)
-    ensures { text best.new ≡ picks (text best.old) (forms.forms (instr.Dec width to)) }
+    ensures { AreOffered (forms.forms (instr.Dec width to)) best.old best.new }
 {
     offer_rm(best, Row::Dec(is_full(width)), width, 1, to, 0);
     dec_short(best, width, to);

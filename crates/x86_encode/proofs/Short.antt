@@ -1,0 +1,67 @@
+-- No best spelling of a form is longer than eleven bytes.
+use Rattle.std.proofs.Common.{◌≡◌, ℕ, ◌+◌, ◌≤◌, Bool, true, false, not, ◌||◌, ◌++◌, length, Option, inl, inr, ◌⊎◌, lit≤, arith, length-append}
+use Rattle.std.proofs.lemmas.Bool.{false≢true}
+use Rattle.x86_types.specs.Numbers.{size_of}
+use Rattle.x86_types.specs.declared.operand.Rm.{Rm}
+use Rattle.x86_grammar.specs.declared.row.Form.{Form}
+use Rattle.x86_grammar.specs.declared.row.Row.{Row}
+use Rattle.x86_grammar.specs.declared.row.Row.TheVariants as row
+use Rattle.x86_grammar.specs.Rows.{key_of, has_operand}
+use Rattle.x86_grammar.specs.Attributes.{can_half, imm_size, rep_fits, width_of}
+use Rattle.x86_grammar.specs.FormLaws.{FormSuits}
+use Rattle.x86_grammar.specs.Operand.{le}
+use Rattle.x86_grammar.specs.Spells.{opcode_bytes}
+use Rattle.x86_encode.specs.BestForm.{best_prefixes, best_part, form_best}
+use Rattle.x86_encode.proofs.OperandTest.{length-le}
+use Rattle.x86_encode.proofs.Spelled.{prefixes_short, opcode_short, part_short, size_small}
+
+-- the most bytes of an operand
+abbrev operand_size : Bool → ℕ
+operand_size true = 6
+operand_size false = 0
+
+operand_short : (b : Bool) (o : Option Rm) (n : ℕ) → length (best_part b o n) ≤ operand_size b
+operand_short true o n = part_short true o n
+operand_short false o n = lit≤ tt
+
+-- an opcode of one byte, and a number of the operand's width
+heavy : (f h p : Bool) → (not h || f) ≡ true → not p ≡ true → length (best_prefixes h p) + (1 + size_of (width_of f h)) ≤ 5
+heavy f h true a b = absurd (false≢true b)
+heavy false true false a b = absurd (false≢true a)
+heavy true true false a b = lit≤ tt
+heavy true false false a b = lit≤ tt
+heavy false false false a b = lit≤ tt
+
+abbrev all_but : Row → Bool → Bool → ℕ
+all_but r h p = length (best_prefixes h p) + (length (opcode_bytes (key_of r)) + imm_size r h)
+
+-- the number has at most a byte beside an operand, or the opcode is one byte and no prefix stands beside four
+row_short : (r : Row) (h p : Bool) → (not h || can_half r) ≡ true → rep_fits r p ≡ true → (operand_size (has_operand r) + imm_size r h ≤ 7) ⊎ (all_but r h p ≤ 5)
+row_short (row.AluAcc op f) h p a b = inl (omega (arith, size_small (width_of f h)))
+row_short (row.MovReg r f) h p a b = inl (omega (arith, size_small (width_of f h)))
+row_short (row.TestAcc f) h p a b = inl (omega (arith, size_small (width_of f h)))
+row_short (row.AluImm true) h p a b = inr (heavy true h p a b)
+row_short (row.AluImm false) h p a b = inr (heavy false h p a b)
+row_short (row.TestImm true) h p a b = inr (heavy true h p a b)
+row_short (row.TestImm false) h p a b = inr (heavy false h p a b)
+row_short (row.MovImm true) h p a b = inr (heavy true h p a b)
+row_short (row.MovImm false) h p a b = inr (heavy false h p a b)
+row_short row.ImulWord h p a b = inr (heavy true h p a b)
+row_short _ h p a b = inl (lit≤ tt)
+
+pub suited_short : (f : Form) → FormSuits f → length (form_best f) ≤ 11
+suited_short f s =
+    let part = best_part (has_operand f.row) f.rm f.middle in
+    let tail = le (imm_size f.row f.half) f.imm in
+    let l1 = prefixes_short f.half f.rep in
+    let l2 = opcode_short (key_of f.row) in
+    let l3 = operand_short (has_operand f.row) f.rm f.middle in
+    let l4 = part_short (has_operand f.row) f.rm f.middle in
+    let e1 = length-append (best_prefixes f.half f.rep) (opcode_bytes (key_of f.row) ++ (part ++ tail)) in
+    let e2 = length-append (opcode_bytes (key_of f.row)) (part ++ tail) in
+    let e3 = length-append part tail in
+    let e4 = length-le (imm_size f.row f.half) f.imm in
+    elim (row_short f.row f.half f.rep s.half s.rep) [
+      | inl few ↦ omega (arith, few, e1, e2, e3, e4, l1, l2, l3)
+      | inr few ↦ omega (arith, few, e1, e2, e3, e4, l4)
+    ]
