@@ -8,27 +8,27 @@ abbrev pub has_magic : List ℕ → Bool
 has_magic file = slice_index file 0 == 127 && slice_index file 1 == 69 && slice_index file 2 == 76 && slice_index file 3 == 70
 
 -- e_type, e_machine, e_entry, e_phoff, e_phentsize, e_phnum
-abbrev pub file_kind : List ℕ → ℕ
-file_kind file = half_at file 16
+abbrev pub e_type : List ℕ → ℕ
+e_type file = half_at file 16
 
-abbrev pub machine : List ℕ → ℕ
-machine file = half_at file 18
+abbrev pub e_machine : List ℕ → ℕ
+e_machine file = half_at file 18
 
-abbrev pub entry : List ℕ → ℕ
-entry file = word_at file 24
+abbrev pub e_entry : List ℕ → ℕ
+e_entry file = word_at file 24
 
-abbrev pub table_offset : List ℕ → ℕ
-table_offset file = word_at file 28
+abbrev pub e_phoff : List ℕ → ℕ
+e_phoff file = word_at file 28
 
-abbrev pub header_size : List ℕ → ℕ
-header_size file = half_at file 42
+abbrev pub e_phentsize : List ℕ → ℕ
+e_phentsize file = half_at file 42
 
-abbrev pub header_count : List ℕ → ℕ
-header_count file = half_at file 44
+abbrev pub e_phnum : List ℕ → ℕ
+e_phnum file = half_at file 44
 
 -- the program header that stands at a place; p_paddr and p_align are passed over
 abbrev pub header_at : List ℕ → ℕ → ProgramHeader
-header_at file i = record { kind = word_at file i; offset = word_at file (i + 4); address = word_at file (i + 8); file_size = word_at file (i + 16); memory_size = word_at file (i + 20); flags = word_at file (i + 24) }
+header_at file i = record { p_type = word_at file i; p_offset = word_at file (i + 4); p_vaddr = word_at file (i + 8); p_filesz = word_at file (i + 16); p_memsz = word_at file (i + 20); p_flags = word_at file (i + 24) }
 
 -- so many headers from a place on, each of 32 bytes
 unfoldable pub headers_from : List ℕ → ℕ → ℕ → List ProgramHeader
@@ -36,4 +36,4 @@ headers_from file i zero = []
 headers_from file i (suc n) = header_at file i ∷ headers_from file (i + 32) n
 
 abbrev pub headers_of : List ℕ → List ProgramHeader
-headers_of file = headers_from file (table_offset file) (header_count file)
+headers_of file = headers_from file (e_phoff file) (e_phnum file)

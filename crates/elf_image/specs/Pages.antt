@@ -5,17 +5,17 @@ use Rattle.elf_image.specs.declared.header.ProgramHeader.{ProgramHeader}
 
 -- a header of type PT_LOAD (1) with a size is a segment
 abbrev pub is_segment : ProgramHeader → Bool
-is_segment h = h.kind == 1 && not (h.file_size == 0 && h.memory_size == 0)
+is_segment h = h.p_type == 1 && not (h.p_filesz == 0 && h.p_memsz == 0)
 
 -- the number of the first page, of the page after the last, and of the page after the last file page
 abbrev pub first_page : ProgramHeader → ℕ
-first_page h = h.address / 4096
+first_page h = h.p_vaddr / 4096
 
 abbrev pub end_page : ProgramHeader → ℕ
-end_page h = (h.address + h.memory_size + 4095) / 4096
+end_page h = (h.p_vaddr + h.p_memsz + 4095) / 4096
 
 abbrev pub file_end_page : ProgramHeader → ℕ
-file_end_page h = (h.address + h.file_size + 4095) / 4096
+file_end_page h = (h.p_vaddr + h.p_filesz + 4095) / 4096
 
 -- n bytes of a file from a place on; past its end they are 0
 abbrev pub window : List ℕ → ℕ → ℕ → List ℕ
@@ -31,5 +31,5 @@ zeroed_from k n bytes = take k bytes ++ replicate (n - k) 0
 abbrev pub page_bytes : List ℕ → ProgramHeader → List ℕ
 page_bytes file h =
     let n = 4096 * (file_end_page h - first_page h) in
-    let bytes = window file (h.offset - h.address % 4096) n in
-    cond (ltb h.file_size h.memory_size && has h.flags 2) (zeroed_from (h.address % 4096 + h.file_size) n bytes) bytes
+    let bytes = window file (h.p_offset - h.p_vaddr % 4096) n in
+    cond (ltb h.p_filesz h.p_memsz && has h.p_flags 2) (zeroed_from (h.p_vaddr % 4096 + h.p_filesz) n bytes) bytes

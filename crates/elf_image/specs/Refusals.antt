@@ -6,7 +6,7 @@ use Rattle.elf_image.specs.declared.refusal.Room.{Room}
 use Rattle.elf_image.specs.declared.refusal.Room.TheVariants.{Source, Any}
 use Rattle.elf_image.specs.declared.refusal.Refusal.{Refusal}
 use Rattle.elf_image.specs.declared.refusal.Refusal.TheVariants.{Short, Magic, Class, Order, Version, Kind, Machine, HeaderSize, HeaderTable, Dynamic, SegmentFile, SegmentSize, SegmentAlign, Permission, Range, SharedPage, Entry, CodeSpan, ImageSize}
-use Rattle.elf_image.specs.Fields.{has_magic, file_kind, machine, entry, table_offset, header_size, header_count, headers_of}
+use Rattle.elf_image.specs.Fields.{has_magic, e_type, e_machine, e_entry, e_phoff, e_phentsize, e_phnum, headers_of}
 use Rattle.image.specs.Addresses.{has}
 use Rattle.elf_image.specs.Pages.{is_segment, first_page, end_page}
 
@@ -33,23 +33,23 @@ room_size Any = 0x20000000
 
 -- PT_DYNAMIC or PT_INTERP
 abbrev pub is_dynamic : ProgramHeader → Bool
-is_dynamic h = h.kind == 2 || h.kind == 3
+is_dynamic h = h.p_type == 2 || h.p_type == 3
 
 abbrev pub past_file : ℕ → ProgramHeader → Bool
-past_file n h = ltb n (h.offset + h.file_size)
+past_file n h = ltb n (h.p_offset + h.p_filesz)
 
 abbrev pub is_too_small : ProgramHeader → Bool
-is_too_small h = ltb h.memory_size h.file_size
+is_too_small h = ltb h.p_memsz h.p_filesz
 
 abbrev pub is_misaligned : ProgramHeader → Bool
-is_misaligned h = not (h.offset % 4096 == h.address % 4096)
+is_misaligned h = not (h.p_offset % 4096 == h.p_vaddr % 4096)
 
 -- it can't be read, or can be both written and run
 abbrev pub is_forbidden : ProgramHeader → Bool
-is_forbidden h = not (has h.flags 4) || (has h.flags 2 && has h.flags 1)
+is_forbidden h = not (has h.p_flags 4) || (has h.p_flags 2 && has h.p_flags 1)
 
 abbrev pub is_out_of_room : ℕ → ProgramHeader → Bool
-is_out_of_room end h = ltb h.address 4096 || ltb end (h.address + h.memory_size)
+is_out_of_room end h = ltb h.p_vaddr 4096 || ltb end (h.p_vaddr + h.p_memsz)
 
 abbrev pub shares_page : ProgramHeader → ProgramHeader → Bool
 shares_page h k = ltb (first_page h) (end_page k) && ltb (first_page k) (end_page h)
@@ -59,7 +59,7 @@ any_shares_page [] = false
 any_shares_page (h ∷ hs) = list_any (shares_page h) hs || any_shares_page hs
 
 abbrev pub has_code : ProgramHeader → Bool
-has_code h = has h.flags 1
+has_code h = has h.p_flags 1
 
 abbrev pub has_address : ℕ → ProgramHeader → Bool
 has_address a h = leb (first_page h) (a / 4096) && ltb (a / 4096) (end_page h)
@@ -88,10 +88,10 @@ header_tests file =
     ∷ (not (slice_index file 4 == 1), Class)
     ∷ (not (slice_index file 5 == 1), Order)
     ∷ (not (slice_index file 6 == 1), Version)
-    ∷ (not (file_kind file == 2), Kind)
-    ∷ (not (machine file == 3), Machine)
-    ∷ (not (header_size file == 32), HeaderSize)
-    ∷ (ltb (length file) (table_offset file + 32 * header_count file), HeaderTable)
+    ∷ (not (e_type file == 2), Kind)
+    ∷ (not (e_machine file == 3), Machine)
+    ∷ (not (e_phentsize file == 32), HeaderSize)
+    ∷ (ltb (length file) (e_phoff file + 32 * e_phnum file), HeaderTable)
     ∷ []
 
 -- those of the segments, for a file of n bytes with that entry
@@ -110,7 +110,7 @@ segment_tests n at room hs =
 
 -- all of them, in order
 abbrev pub tests : List ℕ → Room → List (Bool × Refusal)
-tests file room = header_tests file ++ (list_any is_dynamic (headers_of file), Dynamic) ∷ segment_tests (length file) (entry file) room (segments_of file)
+tests file room = header_tests file ++ (list_any is_dynamic (headers_of file), Dynamic) ∷ segment_tests (length file) (e_entry file) room (segments_of file)
 
 -- the first refusal that holds, if one does
 unfoldable pub refusal_of : List ℕ → Room → Option Refusal

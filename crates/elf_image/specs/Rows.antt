@@ -16,7 +16,7 @@ file_header n =
 
 -- a program header; its physical address is its address, and its alignment a page
 abbrev pub segment_header : ℕ → ℕ → ℕ → ℕ → ℕ → List ℕ
-segment_header offset address file_size memory_size flags = word_bytes 1 ++ word_bytes offset ++ word_bytes address ++ word_bytes address ++ word_bytes file_size ++ word_bytes memory_size ++ word_bytes flags ++ word_bytes 4096
+segment_header p_offset p_vaddr p_filesz p_memsz p_flags = word_bytes 1 ++ word_bytes p_offset ++ word_bytes p_vaddr ++ word_bytes p_vaddr ++ word_bytes p_filesz ++ word_bytes p_memsz ++ word_bytes p_flags ++ word_bytes 4096
 
 -- the plain file with this code, of a page at most
 unfoldable pub file_with : List ℕ → List ℕ

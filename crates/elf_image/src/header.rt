@@ -8,12 +8,12 @@ use byte_lists::word_at;
 /// p_memsz, p_flags. Sizes are in bytes.
 #[derive(Clone, Copy, Debug, PartialEq, Eq)]
 pub struct ProgramHeader {
-    pub kind: u32,
-    pub offset: u32,
-    pub address: u32,
-    pub file_size: u32,
-    pub memory_size: u32,
-    pub flags: u32,
+    pub p_type: u32,
+    pub p_offset: u32,
+    pub p_vaddr: u32,
+    pub p_filesz: u32,
+    pub p_memsz: u32,
+    pub p_flags: u32,
 }
 
 /// The bytes 7F 45 4C 46 begin the file.
@@ -30,11 +30,11 @@ pub(crate) fn header_at(bytes: &[u8], i: usize) -> ProgramHeader
     ensures { result ≡ header_at bytes.now i }
 {
     ProgramHeader {
-        kind: word_at(bytes, i),
-        offset: word_at(bytes, i + 4),
-        address: word_at(bytes, i + 8),
-        file_size: word_at(bytes, i + 16),
-        memory_size: word_at(bytes, i + 20),
-        flags: word_at(bytes, i + 24),
+        p_type: word_at(bytes, i),
+        p_offset: word_at(bytes, i + 4),
+        p_vaddr: word_at(bytes, i + 8),
+        p_filesz: word_at(bytes, i + 16),
+        p_memsz: word_at(bytes, i + 20),
+        p_flags: word_at(bytes, i + 24),
     }
 }

@@ -17,11 +17,11 @@ elf_header entry count =
 
 -- p_type, p_offset, p_vaddr, p_paddr (the same), p_filesz, p_memsz, p_flags, p_align (a page)
 unfoldable pub header_bytes : ProgramHeader → List ℕ
-header_bytes h = word_bytes h.kind ++ word_bytes h.offset ++ word_bytes h.address ++ word_bytes h.address ++ word_bytes h.file_size ++ word_bytes h.memory_size ++ word_bytes h.flags ++ word_bytes 4096
+header_bytes h = word_bytes h.p_type ++ word_bytes h.p_offset ++ word_bytes h.p_vaddr ++ word_bytes h.p_vaddr ++ word_bytes h.p_filesz ++ word_bytes h.p_memsz ++ word_bytes h.p_flags ++ word_bytes 4096
 
 -- the header of a segment (PT_LOAD) whose bytes stand at an offset
 abbrev pub header_for : ℕ → Segment → ProgramHeader
-header_for offset s = record { kind = 1; offset = offset; address = s.start; file_size = length s.bytes; memory_size = s.size; flags = s.perm.0 }
+header_for offset s = record { p_type = 1; p_offset = offset; p_vaddr = s.start; p_filesz = length s.bytes; p_memsz = s.size; p_flags = s.perm.0 }
 
 -- those of segments whose bytes stand one after the other from an offset on
 abbrev pub headers_for : ℕ → List Segment → List ProgramHeader

@@ -27,12 +27,12 @@ fn header_for(offset: u32, segment: &Segment) -> ProgramHeader
     ensures { result ≡ header_for offset segment.now }
 {
     ProgramHeader {
-        kind: 1,
-        offset,
-        address: segment.start,
-        file_size: segment.bytes.len() as u32,
-        memory_size: segment.size,
-        flags: segment.perm.0,
+        p_type: 1,
+        p_offset: offset,
+        p_vaddr: segment.start,
+        p_filesz: segment.bytes.len() as u32,
+        p_memsz: segment.size,
+        p_flags: segment.perm.0,
     }
 }
 
@@ -44,13 +44,13 @@ fn push_header(out: &mut Vec<u8>, h: ProgramHeader) -> Result<(), AllocError>
     push_words(
         out,
         &[
-            h.kind,
-            h.offset,
-            h.address,
-            h.address,
-            h.file_size,
-            h.memory_size,
-            h.flags,
+            h.p_type,
+            h.p_offset,
+            h.p_vaddr,
+            h.p_vaddr,
+            h.p_filesz,
+            h.p_memsz,
+            h.p_flags,
             4096,
         ],
     )
@@ -69,7 +69,7 @@ pub(crate) fn push_table(
     for segment in segments {
         let header = header_for(offset, segment);
         push_header(out, header)?;
-        offset += header.file_size;
+        offset += header.p_filesz;
     }
     Ok(())
 }
