@@ -1,5 +1,5 @@
 -- The fields of a file's header and of its program headers, lowest byte first (gABI, "ELF Header", "Program Header").
-use Rattle.std.specs.Prelude.{ℕ, zero, suc, ◌+◌, ◌*◌, ◌==◌, ◌&&◌, Bool, List, [], ◌∷◌, slice_index}
+use Rattle.std.specs.Prelude.{ℕ, zero, suc, ◌+◌, ◌==◌, ◌&&◌, Bool, List, [], ◌∷◌, slice_index}
 use Rattle.byte_lists.specs.LittleEndian.{half_at, word_at}
 use Rattle.elf_image.specs.declared.header.ProgramHeader.{ProgramHeader}
 

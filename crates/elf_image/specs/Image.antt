@@ -1,13 +1,11 @@
 -- The image of a file: the bytes and permissions of each address, and the entry.
-use Rattle.std.specs.Prelude.{ℕ, zero, suc, ◌+◌, ◌-◌, ◌*◌, ◌%◌, ◌&&◌, Bool, false, cond, leb, ltb, List, [], ◌∷◌, map, find, Option, Some, None, Result, Ok, Err, slice_index}
-use Rattle.std.specs.Option.{option_map, option_map_or}
+use Rattle.std.specs.Prelude.{ℕ, ◌-◌, ◌*◌, ◌%◌, List, map, Option, Some, None, Result, Ok, Err}
 use Rattle.elf_image.specs.declared.header.ProgramHeader.{ProgramHeader}
 use Rattle.image.specs.declared.image.Segment.{Segment}
 use Rattle.image.specs.declared.image.Image.{Image}
 use Rattle.elf_image.specs.declared.refusal.Room.{Room}
 use Rattle.elf_image.specs.declared.refusal.Refusal.{Refusal}
 use Rattle.elf_image.specs.Fields.{e_entry}
-use Rattle.image.specs.Addresses.{has}
 use Rattle.elf_image.specs.Pages.{first_page, end_page, page_bytes}
 use Rattle.elf_image.specs.Refusals.{refusal_of, segments_of}
 

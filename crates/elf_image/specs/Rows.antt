@@ -1,5 +1,5 @@
 -- Files that are written out, and what the definition of an image says of each.
-use Rattle.std.specs.Prelude.{◌≡◌, ℕ, ◌-◌, ◌/◌, ◌%◌, true, false, List, [], ◌∷◌, ◌++◌, length, replicate, Some, None, Err, slice_set, IsOkAnd}
+use Rattle.std.specs.Prelude.{◌≡◌, ℕ, ◌-◌, true, false, List, [], ◌∷◌, ◌++◌, length, Some, None, Err, slice_set, IsOkAnd}
 use Rattle.byte_lists.specs.LittleEndian.{half_bytes, word_bytes, zeros}
 use Rattle.image.specs.declared.image.Image.{Image}
 use Rattle.elf_image.specs.declared.refusal.Room.{Room}
@@ -47,6 +47,12 @@ ShowsSeven image =
 
 abbrev pub SevenFile : Type 0
 SevenFile = (is_plain seven_file ≡ true) × IsOkAnd (image_of seven_file Source) ShowsSeven
+
+-- a plain file has at least one byte of code and at most a page
+pub record PlainCode : Type 0 where
+  pub none : is_plain (file_with []) ≡ false
+  pub one : is_plain (file_with (0xF4 ∷ [])) ≡ true
+  pub whole_page : is_plain (file_with (zeros 4096)) ≡ true
 
 -- the code's page can be written too, and then its size in the file is too great as well
 abbrev pub writable_code : List ℕ
