@@ -27,13 +27,15 @@ is_plain_room h =
 unfoldable pub is_plain : List ℕ → Bool
 is_plain file = length file == 8192 && has_plain_header file && is_plain_text (header_at file 52) && is_plain_room (header_at file 84)
 
--- the image of a plain file: its code with the rest of that page, and a page of zeros
+-- the page of code, with the rest of that page of the file
 abbrev pub text_segment : List ℕ → Segment
 text_segment file = record { start = 0x08049000; size = 4096; perm = record { 0 = 5 }; bytes = take 4096 (drop 4096 file) }
 
+-- the page of zeros, none of whose bytes stand in the file
 abbrev pub room_segment : Segment
 room_segment = record { start = 0x0804A000; size = 4096; perm = record { 0 = 6 }; bytes = [] }
 
+-- the image of a plain file
 abbrev pub plain_image : List ℕ → Image
 plain_image file = record { segments = text_segment file ∷ room_segment ∷ []; entry = 0x08049000 }
 

@@ -1,3 +1,4 @@
+// What the definitions say of plain files, and of files and headers that are written out.
 ghost use Rattle.elf_image.specs.Plain.{PlainIsAccepted, PlainIsRead};
 ghost use Rattle.elf_image.specs.HeaderRows.{FieldPlaces, HeaderCauses, HeaderPairs, HeaderTypes};
 ghost use Rattle.elf_image.specs.RefusalRows.{OrderOfCauses, PrintedNames};
@@ -10,7 +11,7 @@ pub fn image_laws()
     ensures plain_is_read { PlainIsRead }
 {}
 
-/// Does nothing: its clauses say what the definition of an image makes of files that are written out.
+/// Does nothing: its clauses are worked rows, the images of files that are written out, or their refusals.
 pub fn worked_images()
     ensures empty_file { EmptyFile }
     ensures magic_alone { MagicAlone }

@@ -31,6 +31,7 @@ pub(crate) fn file_end_page(h: ProgramHeader) -> u64
     (u64::from(h.p_vaddr) + u64::from(h.p_filesz) + 4095) / 4096
 }
 
+/// Whether the segment can be run.
 #[tactic(auto, using(crate::proofs::Permissions::run_bit))]
 pub(crate) fn can_run(h: ProgramHeader) -> bool
     ensures { result ≡ has h.p_flags 1 }
@@ -38,6 +39,7 @@ pub(crate) fn can_run(h: ProgramHeader) -> bool
     Perm(h.p_flags).contains(Perm::X)
 }
 
+/// Whether the segment can be written.
 #[tactic(auto, using(crate::proofs::Permissions::write_bit))]
 pub(crate) fn can_write(h: ProgramHeader) -> bool
     ensures { result ≡ has h.p_flags 2 }
@@ -45,6 +47,7 @@ pub(crate) fn can_write(h: ProgramHeader) -> bool
     Perm(h.p_flags).contains(Perm::W)
 }
 
+/// Whether the segment can be read.
 #[tactic(auto, using(crate::proofs::Permissions::read_bit))]
 pub(crate) fn can_read(h: ProgramHeader) -> bool
     ensures { result ≡ has h.p_flags 4 }

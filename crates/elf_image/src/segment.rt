@@ -11,7 +11,7 @@ use byte_lists::ByteList;
 use image::{Perm, Segment};
 use std::alloc::{AllocError, Global};
 
-/// So many bytes of a file from a place on, and zeros past its end.
+/// `size` bytes of a file from an offset on, with zeros past its end.
 fn window(alloc: Global, bytes: &[u8], from: usize, size: usize) -> Result<Vec<u8>, AllocError>
     ensures { IfOk result (λ copied. copied.items ≡ window bytes.now from size) }
 {

@@ -6,7 +6,7 @@ use Rattle.elf_image.specs.Fields.{has_magic, e_type, e_machine, e_entry, e_phof
 use Rattle.elf_image.specs.Refusals.{first, header_tests}
 use Rattle.elf_writer.specs.Written.{elf_header}
 
-pub word_again : (n : ℕ) → n < 4294967296 → n % 256 + 256 * (n / 256 % 256) + 65536 * (n / 65536 % 256) + 16777216 * (n / 16777216 % 256) ≡ n
+pub word_again : (n : ℕ) → n < 0x100000000 → n % 256 + 256 * (n / 256 % 256) + 65536 * (n / 65536 % 256) + 16777216 * (n / 16777216 % 256) ≡ n
 word_again n h = omega arith
 
 half_again : (n : ℕ) → n < 65536 → n % 256 + 256 * (n / 256 % 256) ≡ n
@@ -28,7 +28,7 @@ pub record HasHeader (file : List ℕ) (at count : ℕ) : Type 0 where
   pub size_is : e_phentsize file ≡ 32
   pub count_is : e_phnum file ≡ count
 
-pub header_read : (at count : ℕ) (rest : List ℕ) → at < 4294967296 → count < 65536 → HasHeader (elf_header at count ++ rest) at count
+pub header_read : (at count : ℕ) (rest : List ℕ) → at < 0x100000000 → count < 65536 → HasHeader (elf_header at count ++ rest) at count
 unfolding elf_header
 header_read at count rest h k = record {
   magic = refl;

@@ -51,12 +51,12 @@ header_from file i =
     same_header first (word_from file i 4) (word_from file i 8) (word_from file i 16) (word_from file i 20) (word_from file i 24)
 
 pub record FitsWords (h : ProgramHeader) : Type 0 where
-  pub p_type : h.p_type < 4294967296
-  pub p_offset : h.p_offset < 4294967296
-  pub p_vaddr : h.p_vaddr < 4294967296
-  pub p_filesz : h.p_filesz < 4294967296
-  pub p_memsz : h.p_memsz < 4294967296
-  pub p_flags : h.p_flags < 4294967296
+  pub p_type : h.p_type < 0x100000000
+  pub p_offset : h.p_offset < 0x100000000
+  pub p_vaddr : h.p_vaddr < 0x100000000
+  pub p_filesz : h.p_filesz < 0x100000000
+  pub p_memsz : h.p_memsz < 0x100000000
+  pub p_flags : h.p_flags < 0x100000000
 
 header_again : (h : ProgramHeader) (rest : List ℕ) → FitsWords h → header_at (header_bytes h ++ rest) 0 ≡ h
 unfolding header_bytes
@@ -73,7 +73,7 @@ headers_read file i (h ∷ hs) rest at fit =
     let more : headers_from file (i + 32) (length hs) ≡ hs = headers_read file (i + 32) hs rest then fit.1 in
     cc
 
-pub headers_fit : (offset : ℕ) (ss : List Segment) → AllByRecursion HasItsPlace ss → offset + length (data_of ss) < 4294967296 → AllByRecursion FitsWords (headers_for offset ss)
+pub headers_fit : (offset : ℕ) (ss : List Segment) → AllByRecursion HasItsPlace ss → offset + length (data_of ss) < 0x100000000 → AllByRecursion FitsWords (headers_for offset ss)
 headers_fit offset [] each h = tt
 headers_fit offset (s ∷ ss) each h =
     let place = each.0 in

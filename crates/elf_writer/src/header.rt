@@ -23,7 +23,7 @@ pub(crate) fn push_elf_header(out: &mut Vec<u8>, entry: u32, count: u16) -> Resu
 
 /// The program header of a segment whose bytes stand at an offset.
 fn header_for(offset: u32, segment: &Segment) -> ProgramHeader
-    requires { length segment.now.bytes < 4294967296 }
+    requires { length segment.now.bytes < 0x100000000 }
     ensures { result ≡ header_for offset segment.now }
 {
     ProgramHeader {
@@ -44,14 +44,7 @@ fn push_header(out: &mut Vec<u8>, h: ProgramHeader) -> Result<(), AllocError>
     push_words(
         out,
         &[
-            h.p_type,
-            h.p_offset,
-            h.p_vaddr,
-            h.p_vaddr,
-            h.p_filesz,
-            h.p_memsz,
-            h.p_flags,
-            4096,
+            h.p_type, h.p_offset, h.p_vaddr, h.p_vaddr, h.p_filesz, h.p_memsz, h.p_flags, 4096,
         ],
     )
 }
@@ -62,7 +55,7 @@ pub(crate) fn push_table(
     start: u32,
     segments: &[Segment],
 ) -> Result<(), AllocError>
-    requires { start + length (data_of segments.now) < 4294967296 }
+    requires { start + length (data_of segments.now) < 0x100000000 }
     ensures { OnOk result (out.new.items ≡ out.old.items ++ table_bytes start segments.now) }
 {
     let mut offset = start;
