@@ -1,1 +1,3 @@
 pub mod LittleEndian
+pub mod Laws
+pub mod Rows

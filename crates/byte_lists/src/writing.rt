@@ -1,4 +1,4 @@
-// Numbers that are put behind a list of bytes, the lowest byte first. After an error the list may have grown by a part of them.
+// Numbers that are put behind a list of bytes, the lowest byte first. After an error the list may have grown by some of their bytes.
 ghost use Rattle.std.specs.Prelude.{◌≡◌, ◌++◌, OnOk};
 ghost use Rattle.std.specs.List.{flat_map};
 ghost use Rattle.byte_lists.specs.LittleEndian.{half_bytes, word_bytes, zeros};
@@ -22,7 +22,7 @@ fn push_word(out: &mut Vec<u8>, n: u32) -> Result<(), AllocError>
     out.extend_from_slice(&bytes)
 }
 
-/// Puts so many bytes that are 0 behind the list.
+/// Puts `count` bytes that are 0 behind the list.
 pub fn push_zeros(out: &mut Vec<u8>, count: usize) -> Result<(), AllocError>
     ensures { OnOk result (out.new.items ≡ out.old.items ++ zeros count) }
 {

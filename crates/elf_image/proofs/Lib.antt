@@ -1,9 +1,12 @@
 pub mod Extents
+pub mod HeaderRows
 pub mod Headers
 pub mod Permissions
 pub mod PlainForm
 pub mod Reading
+pub mod RefusalRows
 pub mod Rooms
 pub mod Rows
+pub mod SegmentRows
 pub mod SharedPages
 pub mod Windows

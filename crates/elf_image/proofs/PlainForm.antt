@@ -11,14 +11,14 @@ use Rattle.elf_image.specs.declared.refusal.Room.{Room}
 use Rattle.elf_image.specs.declared.refusal.Room.TheVariants.{Source, Any}
 use Rattle.elf_image.specs.declared.refusal.Refusal.{Refusal}
 use Rattle.elf_image.specs.declared.refusal.Refusal.TheVariants.{Short, Magic, Class, Order, Version, Kind, Machine, HeaderSize, HeaderTable, Dynamic, SegmentFile, SegmentSize, SegmentAlign, Permission, Range, SharedPage, Entry, CodeSpan, ImageSize}
-use Rattle.elf_image.specs.Fields.{has_magic, file_kind, machine, entry, table_offset, header_size, header_count, header_at, headers_from, headers_of}
+use Rattle.elf_image.specs.Fields.{has_magic, e_type, e_machine, e_entry, e_phoff, e_phentsize, e_phnum, header_at, headers_from, headers_of}
 use Rattle.elf_image.specs.Pages.{window, first_page, page_bytes, end_page, file_end_page, is_segment}
 use Rattle.elf_image.specs.Refusals.{first, tests, segment_tests, segments_of, refusal_of, room_end, room_span, room_size, past_file, is_dynamic, is_too_small, is_out_of_room, any_shares_page, has_address, has_code, code_span, pages_size}
 use Rattle.elf_image.specs.Image.{image_of, image_if, segment_of}
 use Rattle.elf_image.specs.Plain.{is_plain, is_plain_text, is_plain_room, has_plain_header, text_segment, room_segment, PlainIsAccepted, PlainIsRead}
 
 abbrev pub program_header : ℕ → ℕ → ℕ → ℕ → ℕ → ℕ → ProgramHeader
-program_header k o a f m g = record { kind = k; offset = o; address = a; file_size = f; memory_size = m; flags = g }
+program_header k o a f m g = record { p_type = k; p_offset = o; p_vaddr = a; p_filesz = f; p_memsz = m; p_flags = g }
 
 -- the two program headers of a plain file with n bytes of code
 abbrev pub text_header : ℕ → ProgramHeader
@@ -37,17 +37,17 @@ pub record IsPlainHeader (file : List ℕ) : Type 0 where
   pub class : get_or file 4 0 ≡ 1
   pub order : get_or file 5 0 ≡ 1
   pub version : get_or file 6 0 ≡ 1
-  pub kind : file_kind file ≡ 2
-  pub machine : machine file ≡ 3
-  pub entry : entry file ≡ 0x08049000
-  pub table_offset : table_offset file ≡ 52
-  pub header_size : header_size file ≡ 32
-  pub header_count : header_count file ≡ 2
+  pub kind : e_type file ≡ 2
+  pub machine : e_machine file ≡ 3
+  pub entry : e_entry file ≡ 0x08049000
+  pub e_phoff : e_phoff file ≡ 52
+  pub e_phentsize : e_phentsize file ≡ 32
+  pub e_phnum : e_phnum file ≡ 2
 
 pub record IsPlainText (h : ProgramHeader) : Type 0 where
-  pub is : h ≡ text_header h.memory_size
-  pub low : 1 ≤ h.memory_size
-  pub high : h.memory_size ≤ 4096
+  pub is : h ≡ text_header h.p_memsz
+  pub low : 1 ≤ h.p_memsz
+  pub high : h.p_memsz ≤ 4096
 
 same_header : {k o a f m g k' o' a' f' m' g' : ℕ} → k ≡ k' → o ≡ o' → a ≡ a' → f ≡ f' → m ≡ m' → g ≡ g'
     → program_header k o a f m g ≡ program_header k' o' a' f' m' g'
@@ -61,9 +61,9 @@ plain_text_is h e =
     let d = and_parts _ _ c.0 in
     let f = and_parts _ _ d.0 in
     let g = and_parts _ _ f.0 in
-    let low : 1 ≤ h.file_size = leb-true _ _ c.1 in
-    let high : h.file_size ≤ 4096 = leb-true _ _ b.1 in
-    let same : h.file_size ≡ h.memory_size = eqb-true _ _ d.1 in
+    let low : 1 ≤ h.p_filesz = leb-true _ _ c.1 in
+    let high : h.p_filesz ≤ 4096 = leb-true _ _ b.1 in
+    let same : h.p_filesz ≡ h.p_memsz = eqb-true _ _ d.1 in
     record {
       is = same_header (eqb-true _ _ g.0) (eqb-true _ _ g.1) (eqb-true _ _ f.1) same refl (eqb-true _ _ a.1);
       low = omega arith;
@@ -96,9 +96,9 @@ plain_header_is file e =
       kind = eqb-true _ _ g.1;
       machine = eqb-true _ _ f.1;
       entry = eqb-true _ _ d.1;
-      table_offset = eqb-true _ _ c.1;
-      header_size = eqb-true _ _ b.1;
-      header_count = eqb-true _ _ a.1;
+      e_phoff = eqb-true _ _ c.1;
+      e_phentsize = eqb-true _ _ b.1;
+      e_phnum = eqb-true _ _ a.1;
     }
 
 pub record IsPlain (file : List ℕ) : Type 0 where
@@ -175,15 +175,15 @@ tests_pass magic size class order version kind machine each table count at n roo
     rw (p1, p2, p3, p4, p5, p6, p7, p8, p9, p10, p11, text_is_segment n low) (segments_pass n room low high)
 
 -- the two headers are those of the form
-headers_are : (file : List ℕ) → (p : IsPlain file) → headers_of file ≡ plain_headers (header_at file 52).memory_size
+headers_are : (file : List ℕ) → (p : IsPlain file) → headers_of file ≡ plain_headers (header_at file 52).p_memsz
 unfolding headers_from
-headers_are file p = rw (p.header.table_offset, p.header.header_count) (let e = p.text.is in let f = p.room in cc)
+headers_are file p = rw (p.header.e_phoff, p.header.e_phnum) (let e = p.text.is in let f = p.room in cc)
 
 plain_passes : (file : List ℕ) (room : Room) → has_magic file ≡ true → IsPlain file → refusal_of file room ≡ None
 unfolding refusal_of
 plain_passes file room magic p =
     let h = p.header in
-    rw (headers_are file p) (tests_pass _ _ _ _ _ _ _ _ _ _ _ _ room magic p.size h.class h.order h.version h.kind h.machine h.header_size h.table_offset h.header_count h.entry p.text.low p.text.high)
+    rw (headers_are file p) (tests_pass _ _ _ _ _ _ _ _ _ _ _ _ room magic p.size h.class h.order h.version h.kind h.machine h.e_phentsize h.e_phoff h.e_phnum h.entry p.text.low p.text.high)
 
 -- a window that ends within the file
 window_within : (file : List ℕ) (i n : ℕ) → i + n ≤ length file → window file i n ≡ take n (drop i file)
@@ -192,10 +192,10 @@ window_within file i n h =
     rw (take-append-le n (drop i file) (replicate n 0) fits) refl
 
 -- the bytes of a segment whose sizes are equal and whose file pages lie within the file
-bytes_within : (file : List ℕ) (h : ProgramHeader) (i n : ℕ) → h.file_size ≡ h.memory_size → h.offset - h.address % 4096 ≡ i → 4096 * (file_end_page h - first_page h) ≡ n
+bytes_within : (file : List ℕ) (h : ProgramHeader) (i n : ℕ) → h.p_filesz ≡ h.p_memsz → h.p_offset - h.p_vaddr % 4096 ≡ i → 4096 * (file_end_page h - first_page h) ≡ n
     → i + n ≤ length file → page_bytes file h ≡ take n (drop i file)
 bytes_within file h i n same from size fits =
-    let e : ltb h.file_size h.memory_size ≡ false = le-ltb h.file_size h.memory_size (omega arith) in
+    let e : ltb h.p_filesz h.p_memsz ≡ false = le-ltb h.p_filesz h.p_memsz (omega arith) in
     rw (e, from, size) (window_within file i n fits)
 
 same_segment : {s z s' z' : ℕ} {p p' : Perm} {b b' : List ℕ} → s ≡ s' → z ≡ z' → p ≡ p' → b ≡ b' → segment s z p b ≡ segment s' z' p' b'
@@ -208,7 +208,7 @@ text_segment_is file n low high size =
 
 segments_are : (file : List ℕ) → IsPlain file → map (segment_of file) (segments_of file) ≡ text_segment file ∷ room_segment ∷ []
 segments_are file p =
-    let n = (header_at file 52).memory_size in
+    let n = (header_at file 52).p_memsz in
     let keeps : filter is_segment (plain_headers n) ≡ plain_headers n = rw (text_is_segment n p.text.low) refl in
     rw (headers_are file p, keeps) (ap (λ s. s ∷ room_segment ∷ []) (text_segment_is file n p.text.low p.text.high p.size))
 

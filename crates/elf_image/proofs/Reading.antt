@@ -7,7 +7,7 @@ use Rattle.elf_image.specs.declared.header.ProgramHeader.{ProgramHeader}
 use Rattle.elf_image.specs.declared.refusal.Room.{Room}
 use Rattle.elf_image.specs.declared.refusal.Refusal.{Refusal}
 use Rattle.elf_image.specs.declared.refusal.Refusal.TheVariants.{Dynamic, SegmentFile, SegmentSize, SegmentAlign, Permission, Range, SharedPage, Entry, CodeSpan, ImageSize}
-use Rattle.elf_image.specs.Fields.{entry, headers_of}
+use Rattle.elf_image.specs.Fields.{e_entry, headers_of}
 use Rattle.elf_image.specs.Refusals.{first, header_tests, segment_tests, segments_of, refusal_of, is_dynamic, is_out_of_room, room_end, room_span, room_size, any_shares_page, has_address, has_code, code_span, pages_size}
 use Rattle.elf_image.specs.Image.{image_of, image_if, segment_of}
 use Rattle.elf_image.proofs.Rooms.{within_any}
@@ -37,30 +37,30 @@ refused file room r e = ap (image_if file) e
 
 -- the tests after those of the header
 abbrev after_header : List ℕ → Room → List (Bool × Refusal)
-after_header file room = (list_any is_dynamic (headers_of file), Dynamic) ∷ segment_tests (length file) (entry file) room (segments_of file)
+after_header file room = (list_any is_dynamic (headers_of file), Dynamic) ∷ segment_tests (length file) (e_entry file) room (segments_of file)
 
 pub header_refuses : (file : List ℕ) (room : Room) (r : Refusal) → first (header_tests file) ≡ Some r → image_of file room ≡ Err r
 unfolding refusal_of
 header_refuses file room r e = refused file room r (first_here (header_tests file) (after_header file room) r e)
 
 past_header : (file : List ℕ) (room : Room) → first (header_tests file) ≡ None
-    → refusal_of file room ≡ cond (list_any is_dynamic (headers_of file)) (Some Dynamic) (first (segment_tests (length file) (entry file) room (segments_of file)))
+    → refusal_of file room ≡ cond (list_any is_dynamic (headers_of file)) (Some Dynamic) (first (segment_tests (length file) (e_entry file) room (segments_of file)))
 unfolding refusal_of
 past_header file room e = first_after (header_tests file) (after_header file room) e
 
 pub table_refuses : (file : List ℕ) (room : Room) → first (header_tests file) ≡ None → list_any is_dynamic (headers_of file) ≡ true → image_of file room ≡ Err Dynamic
-table_refuses file room e d = refused file room Dynamic (past_header file room e ∙ ap (λ b. cond b (Some Dynamic) (first (segment_tests (length file) (entry file) room (segments_of file)))) d)
+table_refuses file room e d = refused file room Dynamic (past_header file room e ∙ ap (λ b. cond b (Some Dynamic) (first (segment_tests (length file) (e_entry file) room (segments_of file)))) d)
 
 past_table : (file : List ℕ) (room : Room) → first (header_tests file) ≡ None → list_any is_dynamic (headers_of file) ≡ false
-    → refusal_of file room ≡ first (segment_tests (length file) (entry file) room (segments_of file))
-past_table file room e d = past_header file room e ∙ ap (λ b. cond b (Some Dynamic) (first (segment_tests (length file) (entry file) room (segments_of file)))) d
+    → refusal_of file room ≡ first (segment_tests (length file) (e_entry file) room (segments_of file))
+past_table file room e d = past_header file room e ∙ ap (λ b. cond b (Some Dynamic) (first (segment_tests (length file) (e_entry file) room (segments_of file)))) d
 
 pub segments_refuse : (file : List ℕ) (room : Room) (r : Refusal) → first (header_tests file) ≡ None → list_any is_dynamic (headers_of file) ≡ false
-    → first (segment_tests (length file) (entry file) room (segments_of file)) ≡ Some r → image_of file room ≡ Err r
+    → first (segment_tests (length file) (e_entry file) room (segments_of file)) ≡ Some r → image_of file room ≡ Err r
 segments_refuse file room r e d s = refused file room r (past_table file room e d ∙ s)
 
 pub accepted : (file : List ℕ) (room : Room) → first (header_tests file) ≡ None → list_any is_dynamic (headers_of file) ≡ false
-    → first (segment_tests (length file) (entry file) room (segments_of file)) ≡ None → image_of file room ≡ image_if file None
+    → first (segment_tests (length file) (e_entry file) room (segments_of file)) ≡ None → image_of file room ≡ image_if file None
 unfolding image_of
 accepted file room e d s = ap (image_if file) (past_table file room e d ∙ s)
 
@@ -85,5 +85,5 @@ same_image : {ss ts : List Segment} {e f : ℕ} → ss ≡ ts → e ≡ f → im
 same_image p q = cc
 
 pub image_is : (file : List ℕ) (room : Room) (hs : List ProgramHeader) (ss : List Segment) (at : ℕ) → image_of file room ≡ image_if file None → hs ≡ segments_of file
-    → ss ≡ map (segment_of file) hs → at ≡ entry file → image_of file room ≡ Ok (image ss at)
+    → ss ≡ map (segment_of file) hs → at ≡ e_entry file → image_of file room ≡ Ok (image ss at)
 image_is file room hs ss at e h s a = e ∙ ap Ok (same_image (sym (s ∙ ap (map (segment_of file)) h)) (sym a))

@@ -7,24 +7,24 @@ use Rattle.elf_image.specs.declared.refusal.Room.{Room}
 use Rattle.elf_image.specs.declared.refusal.Room.TheVariants.{Source, Any}
 use Rattle.elf_image.specs.Refusals.{is_out_of_room, room_end}
 
-ends_within : (end : ℕ) (h : ProgramHeader) → is_out_of_room end h ≡ false → h.address + h.memory_size ≤ end
-ends_within end h e = ltb-false end (h.address + h.memory_size) (or_parts _ _ e).1
+ends_within : (end : ℕ) (h : ProgramHeader) → is_out_of_room end h ≡ false → h.p_vaddr + h.p_memsz ≤ end
+ends_within end h e = ltb-false end (h.p_vaddr + h.p_memsz) (or_parts _ _ e).1
 
-at_place : (end i : ℕ) (hs : List ProgramHeader) (d : ProgramHeader) → list_any (is_out_of_room end) hs ≡ false → i < length hs → (get_or hs i d).address + (get_or hs i d).memory_size ≤ end
+at_place : (end i : ℕ) (hs : List ProgramHeader) (d : ProgramHeader) → list_any (is_out_of_room end) hs ≡ false → i < length hs → (get_or hs i d).p_vaddr + (get_or hs i d).p_memsz ≤ end
 at_place end i [] d e within = absurd (omega arith)
 at_place end zero (h ∷ hs) d e within = ends_within end h (or_parts _ _ e).0
 at_place end (suc i) (h ∷ hs) d e within = at_place end i hs d (or_parts (is_out_of_room end h) (list_any (is_out_of_room end) hs) e).1 (omega arith)
 
-pub within_room : (hs : List ProgramHeader) (i : ℕ) (h : ProgramHeader) → list_any (is_out_of_room 0x7C000000) hs ≡ false → i < length hs → h ≡ get_or hs i h → h.address + h.memory_size ≤ 0x7C000000
+pub within_room : (hs : List ProgramHeader) (i : ℕ) (h : ProgramHeader) → list_any (is_out_of_room 0x7C000000) hs ≡ false → i < length hs → h ≡ get_or hs i h → h.p_vaddr + h.p_memsz ≤ 0x7C000000
 within_room hs i h e within is = rw is (at_place 0x7C000000 i hs h e within)
 
 wider : (small large : ℕ) (hs : List ProgramHeader) → small ≤ large → list_any (is_out_of_room small) hs ≡ false → list_any (is_out_of_room large) hs ≡ false
 wider small large [] up e = refl
 wider small large (h ∷ hs) up e =
     let parts = or_parts (is_out_of_room small h) (list_any (is_out_of_room small) hs) e in
-    let low = or_parts (ltb h.address 4096) (ltb small (h.address + h.memory_size)) parts.0 in
-    let end : h.address + h.memory_size ≤ small = ltb-false _ _ low.1 in
-    or_from _ _ (or_from _ _ low.0 (le-ltb large (h.address + h.memory_size) (omega arith))) (wider small large hs up parts.1)
+    let low = or_parts (ltb h.p_vaddr 4096) (ltb small (h.p_vaddr + h.p_memsz)) parts.0 in
+    let end : h.p_vaddr + h.p_memsz ≤ small = ltb-false _ _ low.1 in
+    or_from _ _ (or_from _ _ low.0 (le-ltb large (h.p_vaddr + h.p_memsz) (omega arith))) (wider small large hs up parts.1)
 
 pub within_any : (room : Room) (hs : List ProgramHeader) → list_any (is_out_of_room (room_end room)) hs ≡ false → list_any (is_out_of_room 0x7C000000) hs ≡ false
 within_any Source hs e = wider 0x50000000 0x7C000000 hs (omega arith) e

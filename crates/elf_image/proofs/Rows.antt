@@ -5,7 +5,7 @@ use Rattle.elf_image.specs.Refusals.{refusal_of}
 use Rattle.elf_image.specs.Plain.{is_plain}
 use Rattle.image.specs.Addresses.{segment_at}
 use Rattle.elf_image.specs.Image.{image_of}
-use Rattle.elf_image.specs.Rows.{EmptyFile, MagicAlone, SevenFile, WritableCode, LinkedFile, linked_file, file_with}
+use Rattle.elf_image.specs.Rows.{EmptyFile, MagicAlone, SevenFile, PlainCode, WritableCode, LinkedFile, linked_file, file_with}
 
 pub empty_file : EmptyFile
 unfolding image_of refusal_of
@@ -18,6 +18,10 @@ magic_alone room = refl
 pub seven_is : SevenFile
 unfolding is_plain image_of refusal_of headers_from segment_at file_with
 seven_is = (refl, (refl, refl, refl, refl, refl, refl, refl))
+
+pub plain_code : PlainCode
+unfolding is_plain file_with
+plain_code = record { none = refl; one = refl; whole_page = refl }
 
 pub writable_is : WritableCode
 unfolding image_of refusal_of headers_from file_with

@@ -86,7 +86,7 @@ neighbours_apart h (k ∷ ks) up sized e =
     let first = or_parts (shares_page h k) (list_any (shares_page h) ks) parts.0 in
     or_from _ _ (in_order (first_page h) (end_page h) (first_page k) (end_page k) first.0 up.0 sized.0) (neighbours_apart k ks up.1 sized.1 parts.1)
 
-rises : (a : ℕ) (hs : List ProgramHeader) → IsNonDecreasingBy first_page hs → (0 < length hs → a ≤ first_page (get_or hs 0 (record { kind = 0; offset = 0; address = 0; file_size = 0; memory_size = 0; flags = 0 }))) → Rises a hs
+rises : (a : ℕ) (hs : List ProgramHeader) → IsNonDecreasingBy first_page hs → (0 < length hs → a ≤ first_page (get_or hs 0 (record { p_type = 0; p_offset = 0; p_vaddr = 0; p_filesz = 0; p_memsz = 0; p_flags = 0 }))) → Rises a hs
 rises a [] up low = tt
 rises a (h ∷ hs) up low = (low (omega arith), rises (first_page h) hs (IsNonDecreasingBy-drop first_page 1 (h ∷ hs) up) (λ some. up 0 1 _ (omega arith) (omega arith)))
 
@@ -147,13 +147,13 @@ agree true false f g = g refl
 agree false true f g = sym (f refl)
 agree false false f g = refl
 
-sized_by_bytes : (h : ProgramHeader) → 1 ≤ h.memory_size → IsSized h
+sized_by_bytes : (h : ProgramHeader) → 1 ≤ h.p_memsz → IsSized h
 sized_by_bytes h some = omega arith
 
 -- The test of neighbours in order is that of all pairs in any order.
-pub neighbours_tell : (xs ys : List ProgramHeader) → IsPermutation xs ys → IsNonDecreasingBy first_page ys → All (λ h. 1 ≤ h.memory_size) xs → overlaps 0 ys ≡ any_shares_page xs
+pub neighbours_tell : (xs ys : List ProgramHeader) → IsPermutation xs ys → IsNonDecreasingBy first_page ys → All (λ h. 1 ≤ h.p_memsz) xs → overlaps 0 ys ≡ any_shares_page xs
 neighbours_tell xs ys moved up some =
-    let sized = All-weaker (λ h. 1 ≤ h.memory_size) IsSized sized_by_bytes xs some in
+    let sized = All-weaker (λ h. 1 ≤ h.p_memsz) IsSized sized_by_bytes xs some in
     let before = recursion_from_All IsSized xs sized in
     let behind = recursion_from_All IsSized ys (All-permutation IsSized xs ys moved sized) in
     agree (overlaps 0 ys) (any_shares_page xs)

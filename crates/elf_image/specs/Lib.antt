@@ -8,3 +8,6 @@ pub mod Image
 pub mod Plain
 pub mod Reads
 pub mod Rows
+pub mod SegmentRows
+pub mod HeaderRows
+pub mod RefusalRows

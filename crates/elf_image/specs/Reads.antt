@@ -13,11 +13,11 @@ pub record IsImage (file : List ℕ) (room : Room) (image : Image) : Type 0 wher
   pub is : image_of file room ≡ Ok image
 
 -- the file is refused, and this is the first refusal that holds
-pub record IsRefused (file : List ℕ) (room : Room) (refusal : Refusal) : Type 0 where
+pub record IsFirstRefusal (file : List ℕ) (room : Room) (refusal : Refusal) : Type 0 where
   pub is : image_of file room ≡ Err refusal
 
--- the image of the file, or its first refusal; memory is wanting only where no test of the file's header holds
-abbrev pub Reads : List ℕ → Room → Result Image ImageError → Type 0
-Reads file room (Ok image) = IsImage file room image
-Reads file room (Err (Refused refusal)) = IsRefused file room refusal
-Reads file room (Err Memory) = first (header_tests file) ≡ None
+-- the answer of a reading: the image of the file, or its first refusal; memory runs out only where no test of the file's header holds
+abbrev pub ReadsImage : List ℕ → Room → Result Image ImageError → Type 0
+ReadsImage file room (Ok image) = IsImage file room image
+ReadsImage file room (Err (Refused refusal)) = IsFirstRefusal file room refusal
+ReadsImage file room (Err Memory) = first (header_tests file) ≡ None

@@ -1,5 +1,5 @@
 -- Files that are written out, and what the definition of an image says of each.
-use Rattle.std.specs.Prelude.{◌≡◌, ℕ, ◌-◌, ◌/◌, ◌%◌, true, false, List, [], ◌∷◌, ◌++◌, length, replicate, Some, None, Err, slice_set, IsOkAnd}
+use Rattle.std.specs.Prelude.{◌≡◌, ℕ, ◌-◌, true, false, List, [], ◌∷◌, ◌++◌, length, Some, None, Err, slice_set, IsOkAnd}
 use Rattle.byte_lists.specs.LittleEndian.{half_bytes, word_bytes, zeros}
 use Rattle.image.specs.declared.image.Image.{Image}
 use Rattle.elf_image.specs.declared.refusal.Room.{Room}
@@ -16,9 +16,9 @@ file_header n =
 
 -- a program header; its physical address is its address, and its alignment a page
 abbrev pub segment_header : ℕ → ℕ → ℕ → ℕ → ℕ → List ℕ
-segment_header offset address file_size memory_size flags = word_bytes 1 ++ word_bytes offset ++ word_bytes address ++ word_bytes address ++ word_bytes file_size ++ word_bytes memory_size ++ word_bytes flags ++ word_bytes 4096
+segment_header p_offset p_vaddr p_filesz p_memsz p_flags = word_bytes 1 ++ word_bytes p_offset ++ word_bytes p_vaddr ++ word_bytes p_vaddr ++ word_bytes p_filesz ++ word_bytes p_memsz ++ word_bytes p_flags ++ word_bytes 4096
 
--- the plain file with this code, of a page at most
+-- the plain file with this code, of at most a page
 unfoldable pub file_with : List ℕ → List ℕ
 file_with code =
     file_header 2 ++ segment_header 0x1000 0x08049000 (length code) (length code) 5 ++ segment_header 0x2000 0x0804A000 0 4096 6 ++ zeros 3980
@@ -28,6 +28,7 @@ file_with code =
 abbrev pub exits_with_seven : List ℕ
 exits_with_seven = 0xBB ∷ 7 ∷ 0 ∷ 0 ∷ 0 ∷ 0xB8 ∷ 1 ∷ 0 ∷ 0 ∷ 0 ∷ 0xCD ∷ 0x80 ∷ 0xF4 ∷ []
 
+-- the plain file of that code
 abbrev pub seven_file : List ℕ
 seven_file = file_with exits_with_seven
 
@@ -39,19 +40,27 @@ EmptyFile = (room : Room) → image_of [] room ≡ Err Short
 abbrev pub MagicAlone : Type 0
 MagicAlone = (room : Room) → image_of (0x7F ∷ 0x45 ∷ 0x4C ∷ 0x46 ∷ zeros 48) room ≡ Err Class
 
--- the code stands in a page that can be run and not written, and after that comes a page that can be written and not run
+-- the image of that file: a page that can be run and not written, and after it a page that can be written and not run
 abbrev pub ShowsSeven : Image → Type 0
 ShowsSeven image =
     (image.entry ≡ 0x08049000) × (code_byte_at image 0x08049000 ≡ Some 0xBB) × (code_byte_at image 0x0804A000 ≡ None) × (byte_at image 0x0804A000 ≡ Some 0)
     × (can_write image 0x0804A000 ≡ true) × (can_write image 0x08049000 ≡ false) × (byte_at image 0x0804B000 ≡ None)
 
+-- it is a plain file, and accepted with that image
 abbrev pub SevenFile : Type 0
 SevenFile = (is_plain seven_file ≡ true) × IsOkAnd (image_of seven_file Source) ShowsSeven
 
--- the code's page can be written too, and then its size in the file is too great as well
+-- a plain file has at least one byte of code and at most a page
+pub record PlainCode : Type 0 where
+  pub none : is_plain (file_with []) ≡ false
+  pub one : is_plain (file_with (0xF4 ∷ [])) ≡ true
+  pub whole_page : is_plain (file_with (zeros 4096)) ≡ true
+
+-- the plain file, its code with W too
 abbrev pub writable_code : List ℕ
 writable_code = slice_set seven_file 76 7
 
+-- such code is refused, and earlier so where p_filesz goes past the file too
 abbrev pub WritableCode : Type 0
 WritableCode = (image_of writable_code Source ≡ Err Permission) × (image_of (slice_set writable_code 69 0x20) Source ≡ Err SegmentFile)
 
@@ -70,11 +79,13 @@ linked_file =
     ++ segment_header 0x3000 0x0804B000 4 16 6 ++ word_bytes 0x6474E551 ++ zeros 20 ++ word_bytes 6 ++ zeros 4 ++ zeros 3884
     ++ linked_code ++ zeros 4034 ++ zeros 4096 ++ zeros 4
 
+-- the image of that file
 abbrev pub ShowsLinked : Image → Type 0
 ShowsLinked image =
     (length image.segments ≡ 4) × (image.entry ≡ 0x08049000) × (byte_at image 0x08048000 ≡ Some 0x7F) × (code_byte_at image 0x08048000 ≡ None)
     × (code_byte_at image 0x0804903D ≡ Some 0xC3) × (can_write image 0x0804A000 ≡ false) × (byte_at image 0x0804B010 ≡ Some 0) × (can_write image 0x0804B010 ≡ true)
     × (byte_at image 0x0804C000 ≡ None)
 
+-- it is accepted with that image
 abbrev pub LinkedFile : Type 0
 LinkedFile = IsOkAnd (image_of linked_file Source) ShowsLinked

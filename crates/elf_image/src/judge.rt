@@ -81,25 +81,25 @@ fn room_size(room: Room) -> u64
 fn is_dynamic(h: ProgramHeader) -> bool
     ensures { result ≡ is_dynamic h }
 {
-    h.kind == 2 || h.kind == 3
+    h.p_type == 2 || h.p_type == 3
 }
 
 fn past_file(n: u64, h: ProgramHeader) -> bool
     ensures { result ≡ past_file n h }
 {
-    n < u64::from(h.offset) + u64::from(h.file_size)
+    n < u64::from(h.p_offset) + u64::from(h.p_filesz)
 }
 
 fn is_too_small(h: ProgramHeader) -> bool
     ensures { result ≡ is_too_small h }
 {
-    h.memory_size < h.file_size
+    h.p_memsz < h.p_filesz
 }
 
 fn is_misaligned(h: ProgramHeader) -> bool
     ensures { result ≡ is_misaligned h }
 {
-    h.offset % 4096 != h.address % 4096
+    h.p_offset % 4096 != h.p_vaddr % 4096
 }
 
 fn is_forbidden(h: ProgramHeader) -> bool
@@ -111,7 +111,7 @@ fn is_forbidden(h: ProgramHeader) -> bool
 fn is_out_of_room(end: u64, h: ProgramHeader) -> bool
     ensures { result ≡ is_out_of_room end h }
 {
-    h.address < 4096 || end < u64::from(h.address) + u64::from(h.memory_size)
+    h.p_vaddr < 4096 || end < u64::from(h.p_vaddr) + u64::from(h.p_memsz)
 }
 
 fn has_address(a: u32, h: ProgramHeader) -> bool

@@ -9,7 +9,7 @@ use std::alloc::{AllocError, Global};
 
 /// Whether two of these segments have a page in common. They are sorted by their first pages, and neighbours compared.
 pub(crate) fn any_shares_page(alloc: Global, segments: &[ProgramHeader]) -> Result<bool, AllocError>
-    requires { All (λ h. 1 ≤ h.memory_size) segments.now }
+    requires { All (λ h. 1 ≤ h.p_memsz) segments.now }
     ensures { IfOk result (λ shared. shared ≡ any_shares_page segments.now) }
 {
     let mut ordered = Vec::from_slice(alloc, segments)?;

@@ -12,7 +12,7 @@ pub(crate) fn first_page(h: ProgramHeader) -> u64
     ensures is { result ≡ first_page h }
     ensures small { result < 2 ^ 22 }
 {
-    u64::from(h.address) / 4096
+    u64::from(h.p_vaddr) / 4096
 }
 
 /// The number of the page after its last.
@@ -20,7 +20,7 @@ pub(crate) fn end_page(h: ProgramHeader) -> u64
     ensures is { result ≡ end_page h }
     ensures small { result < 2 ^ 22 }
 {
-    (u64::from(h.address) + u64::from(h.memory_size) + 4095) / 4096
+    (u64::from(h.p_vaddr) + u64::from(h.p_memsz) + 4095) / 4096
 }
 
 /// The number of the page after the last that has bytes of the file.
@@ -28,26 +28,29 @@ pub(crate) fn file_end_page(h: ProgramHeader) -> u64
     ensures is { result ≡ file_end_page h }
     ensures small { result < 2 ^ 22 }
 {
-    (u64::from(h.address) + u64::from(h.file_size) + 4095) / 4096
+    (u64::from(h.p_vaddr) + u64::from(h.p_filesz) + 4095) / 4096
 }
 
+/// Whether the segment can be run.
 #[tactic(auto, using(crate::proofs::Permissions::run_bit))]
 pub(crate) fn can_run(h: ProgramHeader) -> bool
-    ensures { result ≡ has h.flags 1 }
+    ensures { result ≡ has h.p_flags 1 }
 {
-    Perm(h.flags).contains(Perm::X)
+    Perm(h.p_flags).contains(Perm::X)
 }
 
+/// Whether the segment can be written.
 #[tactic(auto, using(crate::proofs::Permissions::write_bit))]
 pub(crate) fn can_write(h: ProgramHeader) -> bool
-    ensures { result ≡ has h.flags 2 }
+    ensures { result ≡ has h.p_flags 2 }
 {
-    Perm(h.flags).contains(Perm::W)
+    Perm(h.p_flags).contains(Perm::W)
 }
 
+/// Whether the segment can be read.
 #[tactic(auto, using(crate::proofs::Permissions::read_bit))]
 pub(crate) fn can_read(h: ProgramHeader) -> bool
-    ensures { result ≡ has h.flags 4 }
+    ensures { result ≡ has h.p_flags 4 }
 {
-    Perm(h.flags).contains(Perm::R)
+    Perm(h.p_flags).contains(Perm::R)
 }

@@ -35,22 +35,22 @@ fn has_plain_header(bytes: &[u8]) -> bool
 fn is_plain_text(h: ProgramHeader) -> bool
     ensures { result ≡ is_plain_text h }
 {
-    h.kind == 1
-        && h.offset == 0x1000
-        && h.address == 0x08049000
-        && h.file_size == h.memory_size
-        && 1 <= h.file_size
-        && h.file_size <= 4096
-        && h.flags == 5
+    h.p_type == 1
+        && h.p_offset == 0x1000
+        && h.p_vaddr == 0x08049000
+        && h.p_filesz == h.p_memsz
+        && 1 <= h.p_filesz
+        && h.p_filesz <= 4096
+        && h.p_flags == 5
 }
 
 fn is_plain_room(h: ProgramHeader) -> bool
     ensures { result ≡ is_plain_room h }
 {
-    h.kind == 1
-        && h.offset == 0x2000
-        && h.address == 0x0804A000
-        && h.file_size == 0
-        && h.memory_size == 4096
-        && h.flags == 6
+    h.p_type == 1
+        && h.p_offset == 0x2000
+        && h.p_vaddr == 0x0804A000
+        && h.p_filesz == 0
+        && h.p_memsz == 4096
+        && h.p_flags == 6
 }

@@ -1,5 +1,5 @@
 // The reader of an executable file.
-ghost use Rattle.elf_image.specs.Reads.{Reads};
+ghost use Rattle.elf_image.specs.Reads.{ReadsImage};
 
 use crate::judge::{any_dynamic, header_refusal, segment_refusal};
 use crate::segment::segments_of;
@@ -12,7 +12,7 @@ use std::alloc::Global;
 /// Reads the image of a file, whose pages may lie in this room (gABI, "Program Loading"). A refusal is the first that
 /// holds; one for the file's header takes no memory.
 pub fn read_image(alloc: Global, bytes: &[u8], room: Room) -> Result<Image, ImageError>
-    ensures { Reads bytes.now room result }
+    ensures { ReadsImage bytes.now room result }
 {
     if let Some(refusal) = header_refusal(bytes) {
         return Err(ImageError::Refused(refusal));

@@ -1,4 +1,4 @@
-// Why a file is turned away.
+// Why a file is refused.
 
 ghost use Rattle.std.specs.Prelude.{◌≡◌};
 ghost use Rattle.elf_image.specs.Names.{refusal_name};
@@ -7,36 +7,58 @@ use std::alloc::AllocError;
 use std::fmt;
 use thiserror::Error;
 
-/// Where a file's pages may lie: the room of files that are rewritten, or the wider room of files that are run.
+/// Where a file's pages may lie, and how many it may have.
 #[derive(Clone, Copy, Debug, PartialEq, Eq)]
 pub enum Room {
+    /// The room of files that are rewritten: up to 0x50000000, with 4 MiB of code and 64 MiB in all.
     Source,
+    /// The wide room, of files that are run: up to 0x7C000000, with 320 MiB of code and 512 MiB in all.
     Any,
 }
 
-/// The causes of a refusal, in the order in which they are judged; `NotYet` is a file that is accepted, but of a form
-/// that is not rewritten yet.
+/// The causes of a refusal, in the order in which they are judged (gABI, "ELF Header", "Program Header"). No reading answers
+/// `NotYet`.
 #[derive(Clone, Copy, Debug, PartialEq, Eq)]
 pub enum Refusal {
+    /// The file has fewer than 52 bytes.
     Short,
+    /// The file doesn't begin with 7F 45 4C 46.
     Magic,
+    /// The class isn't ELFCLASS32.
     Class,
+    /// The data encoding isn't ELFDATA2LSB.
     Order,
+    /// The version isn't EV_CURRENT.
     Version,
+    /// `e_type` isn't ET_EXEC.
     Kind,
+    /// `e_machine` isn't EM_386.
     Machine,
+    /// `e_phentsize` isn't 32.
     HeaderSize,
+    /// The table of program headers goes past the file.
     HeaderTable,
+    /// A program header is of type PT_DYNAMIC or PT_INTERP.
     Dynamic,
+    /// A segment's bytes go past the file.
     SegmentFile,
+    /// `p_memsz` is less than `p_filesz`.
     SegmentSize,
+    /// `p_offset` and `p_vaddr` differ modulo 4,096.
     SegmentAlign,
+    /// A segment can't be read, or can be both written and run.
     Permission,
+    /// A segment begins below 0x1000, or ends behind its room.
     Range,
+    /// Two segments have a page in common.
     SharedPage,
+    /// `e_entry` lies on no page that can be run.
     Entry,
+    /// From the first page that can be run to the end of the last there are more bytes than the room takes.
     CodeSpan,
+    /// All pages together have more bytes than the room takes.
     ImageSize,
+    /// The file is accepted, but isn't of a form that is rewritten yet.
     NotYet,
 }
 
@@ -81,11 +103,13 @@ impl fmt::Display for Refusal {
     }
 }
 
-/// A file is refused, or memory is wanting.
+/// Why a file has no image.
 #[derive(Debug, Drop, Error)]
 pub enum ImageError {
+    /// The file is refused for this cause, the first that holds.
     #[error("refused {0}")]
     Refused(Refusal),
+    /// Memory ran out.
     #[error("out of memory")]
     Memory,
 }

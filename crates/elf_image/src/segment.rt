@@ -11,7 +11,7 @@ use byte_lists::ByteList;
 use image::{Perm, Segment};
 use std::alloc::{AllocError, Global};
 
-/// So many bytes of a file from a place on, and zeros past its end.
+/// `size` bytes of a file from an offset on, with zeros past its end.
 fn window(alloc: Global, bytes: &[u8], from: usize, size: usize) -> Result<Vec<u8>, AllocError>
     ensures { IfOk result (λ copied. copied.items ≡ window bytes.now from size) }
 {
@@ -28,12 +28,12 @@ fn window(alloc: Global, bytes: &[u8], from: usize, size: usize) -> Result<Vec<u
 fn page_bytes(alloc: Global, bytes: &[u8], h: ProgramHeader) -> Result<Vec<u8>, AllocError>
     ensures { IfOk result (λ copied. copied.items ≡ page_bytes bytes.now h) }
 {
-    let inset = h.address % 4096;
-    let from = h.offset.saturating_sub(inset) as usize;
+    let inset = h.p_vaddr % 4096;
+    let from = h.p_offset.saturating_sub(inset) as usize;
     let size = 4096 * file_end_page(h).saturating_sub(first_page(h)) as usize;
     let mut page = window(alloc, bytes, from, size)?;
-    if h.file_size < h.memory_size && can_write(h) {
-        page.truncate(inset as usize + h.file_size as usize);
+    if h.p_filesz < h.p_memsz && can_write(h) {
+        page.truncate(inset as usize + h.p_filesz as usize);
         page.resize(size, 0)?;
     }
     Ok(page)
@@ -41,7 +41,7 @@ fn page_bytes(alloc: Global, bytes: &[u8], h: ProgramHeader) -> Result<Vec<u8>, 
 
 /// The segment of a header that lies below 0x7C000000.
 fn segment_of(alloc: Global, bytes: &[u8], h: ProgramHeader) -> Result<Segment, AllocError>
-    requires { h.address + h.memory_size ≤ 0x7C000000 }
+    requires { h.p_vaddr + h.p_memsz ≤ 0x7C000000 }
     ensures { IfOk result (λ segment. segment ≡ segment_of bytes.now h) }
 {
     let start = 4096 * first_page(h);
@@ -49,7 +49,7 @@ fn segment_of(alloc: Global, bytes: &[u8], h: ProgramHeader) -> Result<Segment, 
     Ok(Segment {
         start: start as u32,
         size: end.saturating_sub(start) as u32,
-        perm: Perm(h.flags % 8),
+        perm: Perm(h.p_flags % 8),
         bytes: ByteList::new(page_bytes(alloc, bytes, h)?),
     })
 }

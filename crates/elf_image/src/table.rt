@@ -1,6 +1,6 @@
 // The table of program headers, and the segments among them.
 ghost use Rattle.std.specs.Prelude.{◌≡◌, ◌+◌, ◌*◌, ◌<◌, ◌≤◌, ◌^◌, length, vec_len, filter, IfOk};
-ghost use Rattle.elf_image.specs.Fields.{headers_of, header_count, table_offset};
+ghost use Rattle.elf_image.specs.Fields.{headers_of, e_phnum, e_phoff};
 ghost use Rattle.elf_image.specs.Pages.{is_segment};
 ghost use Rattle.elf_image.specs.Refusals.{has_code};
 
@@ -13,7 +13,7 @@ use std::alloc::{AllocError, Global};
 #[tactic(auto, using(crate::proofs::Headers::headers_more, crate::proofs::Headers::no_headers, crate::proofs::Headers::count_headers))]
 pub(crate) fn headers(alloc: Global, bytes: &[u8]) -> Result<Vec<ProgramHeader>, AllocError>
     requires long { 52 ≤ length bytes.now }
-    requires fits { table_offset bytes.now + 32 * header_count bytes.now ≤ length bytes.now }
+    requires fits { e_phoff bytes.now + 32 * e_phnum bytes.now ≤ length bytes.now }
     ensures are { IfOk result (λ headers. headers.items ≡ headers_of bytes.now) }
     ensures few { IfOk result (λ headers. vec_len headers < 2 ^ 16) }
 {
@@ -29,7 +29,7 @@ pub(crate) fn headers(alloc: Global, bytes: &[u8]) -> Result<Vec<ProgramHeader>,
 fn is_segment(h: ProgramHeader) -> bool
     ensures { result ≡ is_segment h }
 {
-    h.kind == 1 && !(h.file_size == 0 && h.memory_size == 0)
+    h.p_type == 1 && !(h.p_filesz == 0 && h.p_memsz == 0)
 }
 
 /// The headers that are segments.

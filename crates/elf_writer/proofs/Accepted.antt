@@ -7,7 +7,7 @@ use Rattle.elf_image.specs.declared.header.ProgramHeader.{ProgramHeader}
 use Rattle.image.specs.declared.image.Segment.{Segment}
 use Rattle.elf_image.specs.declared.refusal.Refusal.TheVariants.{Dynamic}
 use Rattle.elf_image.specs.declared.refusal.Room.TheVariants.{Any}
-use Rattle.elf_image.specs.Fields.{entry, header_count, headers_from, headers_of}
+use Rattle.elf_image.specs.Fields.{e_entry, e_phnum, headers_from, headers_of}
 use Rattle.elf_image.specs.Pages.{is_segment}
 use Rattle.byte_lists.specs.LittleEndian.{zeros}
 use Rattle.elf_image.specs.Refusals.{first, room_end, room_span, room_size, is_dynamic, past_file, is_too_small, is_misaligned, is_forbidden, is_out_of_room, any_shares_page, has_address, has_code, code_span, pages_size, segment_tests, segments_of, refusal_of}
@@ -80,7 +80,7 @@ headers_there ss at w =
     let h = header_there ss at w in
     let few = w.few in
     let small = data_is_small ss at w in
-    ap (λ (i : ℕ). headers_from file i (header_count file)) h.table_is
+    ap (λ (i : ℕ). headers_from file i (e_phnum file)) h.table_is
     ∙ ap (headers_from file 52) (h.count_is ∙ sym (length_headers start ss))
     ∙ headers_read file 52 (headers_for start ss) (zeros (start - table_end (length ss)) ++ data_of ss) (table_there ss at) (headers_fit start ss w.each (omega arith))
 
@@ -113,12 +113,12 @@ not_refused ss at w =
     let h = header_there ss at w in
     let long = length_written ss at in
     let dynamic : list_any is_dynamic (headers_of file) ≡ false = ap (list_any is_dynamic) (headers_there ss at w) ∙ none_of is_dynamic not_dynamic start ss even w.each in
-    let segments : first (segment_tests (length file) (entry file) Any (segments_of file)) ≡ None =
-    ap (λ (hs : List ProgramHeader). first (segment_tests (length file) (entry file) Any hs)) (segments_there ss at w)
+    let segments : first (segment_tests (length file) (e_entry file) Any (segments_of file)) ≡ None =
+    ap (λ (hs : List ProgramHeader). first (segment_tests (length file) (e_entry file) Any hs)) (segments_there ss at w)
     ∙ ap (λ (a : ℕ). first (segment_tests (length file) a Any (headers_for start ss))) h.entry_is
     ∙ segments_pass ss at start (length file) w even (omega arith) in
-    header_passes file at (length ss) ((list_any is_dynamic (headers_of file), Dynamic) ∷ segment_tests (length file) (entry file) Any (segments_of file)) h (omega arith)
-    (passes (list_any is_dynamic (headers_of file)) Dynamic (first (segment_tests (length file) (entry file) Any (segments_of file))) dynamic segments)
+    header_passes file at (length ss) ((list_any is_dynamic (headers_of file), Dynamic) ∷ segment_tests (length file) (e_entry file) Any (segments_of file)) h (omega arith)
+    (passes (list_any is_dynamic (headers_of file)) Dynamic (first (segment_tests (length file) (e_entry file) Any (segments_of file))) dynamic segments)
 
 -- ---- the image
 pub written_is_accepted : (ss : List Segment) (at : ℕ) → CanBeWritten ss at → image_of (written ss at) Any ≡ Ok (image_with ss at)
@@ -129,5 +129,5 @@ written_is_accepted ss at w =
     let segments : map (segment_of file) (segments_of file) ≡ ss =
     ap (map (segment_of file)) (segments_there ss at w) ∙ segments_again file (data_start (length ss)) ss w.each (data_there ss at) in
     ap (image_if file) (not_refused ss at w)
-    ∙ ap (λ (rs : List Segment). Ok (image_with rs (entry file))) segments
+    ∙ ap (λ (rs : List Segment). Ok (image_with rs (e_entry file))) segments
     ∙ ap (λ (a : ℕ). Ok (image_with ss a)) h.entry_is

@@ -2,11 +2,11 @@
 use Rattle.std.proofs.Common.{◌≡◌, ℕ, ◌+◌, ◌*◌, ◌/◌, ◌%◌, ◌<◌, ◌≤◌, ◌==◌, Bool, true, false, not, ltb, List, ◌∷◌, ◌++◌, length, None, refl, get_or, arith}
 use Rattle.std.proofs.lemmas.Bool.{le-ltb}
 use Rattle.elf_image.specs.declared.refusal.Refusal.{Refusal}
-use Rattle.elf_image.specs.Fields.{has_magic, file_kind, machine, entry, table_offset, header_size, header_count}
+use Rattle.elf_image.specs.Fields.{has_magic, e_type, e_machine, e_entry, e_phoff, e_phentsize, e_phnum}
 use Rattle.elf_image.specs.Refusals.{first, header_tests}
 use Rattle.elf_writer.specs.Written.{elf_header}
 
-pub word_again : (n : ℕ) → n < 4294967296 → n % 256 + 256 * (n / 256 % 256) + 65536 * (n / 65536 % 256) + 16777216 * (n / 16777216 % 256) ≡ n
+pub word_again : (n : ℕ) → n < 0x100000000 → n % 256 + 256 * (n / 256 % 256) + 65536 * (n / 65536 % 256) + 16777216 * (n / 16777216 % 256) ≡ n
 word_again n h = omega arith
 
 half_again : (n : ℕ) → n < 65536 → n % 256 + 256 * (n / 256 % 256) ≡ n
@@ -21,14 +21,14 @@ pub record HasHeader (file : List ℕ) (at count : ℕ) : Type 0 where
   pub class : get_or file 4 0 ≡ 1
   pub order : get_or file 5 0 ≡ 1
   pub version : get_or file 6 0 ≡ 1
-  pub kind_is : file_kind file ≡ 2
-  pub machine_is : machine file ≡ 3
-  pub entry_is : entry file ≡ at
-  pub table_is : table_offset file ≡ 52
-  pub size_is : header_size file ≡ 32
-  pub count_is : header_count file ≡ count
+  pub kind_is : e_type file ≡ 2
+  pub machine_is : e_machine file ≡ 3
+  pub entry_is : e_entry file ≡ at
+  pub table_is : e_phoff file ≡ 52
+  pub size_is : e_phentsize file ≡ 32
+  pub count_is : e_phnum file ≡ count
 
-pub header_read : (at count : ℕ) (rest : List ℕ) → at < 4294967296 → count < 65536 → HasHeader (elf_header at count ++ rest) at count
+pub header_read : (at count : ℕ) (rest : List ℕ) → at < 0x100000000 → count < 65536 → HasHeader (elf_header at count ++ rest) at count
 unfolding elf_header
 header_read at count rest h k = record {
   magic = refl;
@@ -54,5 +54,5 @@ pub header_passes : (file : List ℕ) (at count : ℕ) (later : List (Bool × Re
 header_passes file at count later h long rest =
     let table = h.table_is in
     let many = h.count_is in
-    first_of_fields (has_magic file) (length file) (get_or file 4 0) (get_or file 5 0) (get_or file 6 0) (file_kind file) (machine file) (header_size file) (table_offset file) (header_count file) later h.magic h.class h.order h.version h.kind_is h.machine_is h.size_is
-    (le-ltb (length file) 52 (omega arith)) (le-ltb (length file) (table_offset file + 32 * header_count file) (rw (table, many) long)) rest
+    first_of_fields (has_magic file) (length file) (get_or file 4 0) (get_or file 5 0) (get_or file 6 0) (e_type file) (e_machine file) (e_phentsize file) (e_phoff file) (e_phnum file) later h.magic h.class h.order h.version h.kind_is h.machine_is h.size_is
+    (le-ltb (length file) 52 (omega arith)) (le-ltb (length file) (e_phoff file + 32 * e_phnum file) (rw (table, many) long)) rest

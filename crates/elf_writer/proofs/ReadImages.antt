@@ -12,7 +12,7 @@ use Rattle.image.specs.declared.image.Segment.{Segment}
 use Rattle.image.specs.declared.image.Image.{Image}
 use Rattle.elf_image.specs.declared.refusal.Refusal.{Refusal}
 use Rattle.elf_image.specs.declared.refusal.Room.TheVariants.{Any}
-use Rattle.elf_image.specs.Fields.{entry, header_count, table_offset, headers_from, headers_of}
+use Rattle.elf_image.specs.Fields.{e_entry, e_phnum, e_phoff, headers_from, headers_of}
 use Rattle.elf_image.specs.Pages.{is_segment, first_page, end_page}
 use Rattle.elf_image.specs.Refusals.{first, room_span, room_size, is_too_small, is_forbidden, is_out_of_room, room_end, shares_page, any_shares_page, has_code, has_address, greatest, least, code_span, pages_size, segments_of, tests, refusal_of}
 use Rattle.image.specs.Addresses.{holds}
@@ -44,7 +44,7 @@ few_segments file bytes =
     let a = byte_below file bytes 44 in
     let b = byte_below file bytes 45 in
     let kept = length_filter is_segment (headers_of file) in
-    let all : length (headers_of file) ≡ header_count file = length_headers_from file (table_offset file) (header_count file) in
+    let all : length (headers_of file) ≡ e_phnum file = length_headers_from file (e_phoff file) (e_phnum file) in
     let mapped : length (segments file (segments_of file)) ≡ length (segments_of file) = length-map (segments_of file) (segment_of file) in
     omega (arith, a, b, kept, all, mapped)
 
@@ -83,7 +83,7 @@ runs_there file a (h ∷ hs) e = step (has_code h) refl (runs_there file a hs) e
     step : (b : Bool) → has_code h ≡ b → (list_any (has_address a) (filter has_code hs) ≡ true → list_any (runs_at a) (segments file hs) ≡ true)
         → list_any (has_address a) (cond b (h ∷ filter has_code hs) (filter has_code hs)) ≡ true → list_any (runs_at a) (segments file (h ∷ hs)) ≡ true
     step true r more e =
-        let low : runs (segment_of file h) ≡ true = runs_low h.flags ∙ r in
+        let low : runs (segment_of file h) ≡ true = runs_low h.p_flags ∙ r in
         ⊎_elim (λ x. or_left (runs_at a (segment_of file h)) (list_any (runs_at a) (segments file hs)) (and_from (runs (segment_of file h)) (holds a (segment_of file h)) low (holds_address file a h x)))
         (λ x. or_right (runs_at a (segment_of file h)) (list_any (runs_at a) (segments file hs)) (more x)) (or_cases (has_address a h) (list_any (has_address a) (filter has_code hs)) e)
     step false r more e = or_right (runs_at a (segment_of file h)) (list_any (runs_at a) (segments file hs)) (more e)
@@ -91,7 +91,7 @@ runs_there file a (h ∷ hs) e = step (has_code h) refl (runs_there file a hs) e
 -- ---- the span of the code, and the size of all pages
 kept_alike : (file : List ℕ) (hs : List ProgramHeader) → filter runs (segments file hs) ≡ segments file (filter has_code hs)
 kept_alike file [] = refl
-kept_alike file (h ∷ hs) = ap (λ (b : Bool). cond b (segment_of file h ∷ filter runs (segments file hs)) (filter runs (segments file hs))) (runs_low h.flags) ∙ step (has_code h) _ (kept_alike file hs)
+kept_alike file (h ∷ hs) = ap (λ (b : Bool). cond b (segment_of file h ∷ filter runs (segments file hs)) (filter runs (segments file hs))) (runs_low h.p_flags) ∙ step (has_code h) _ (kept_alike file hs)
   where
     step : (b : Bool) (ss : List Segment) → ss ≡ segments file (filter has_code hs) → cond b (segment_of file h ∷ ss) ss ≡ segments file (cond b (h ∷ filter has_code hs) (filter has_code hs))
     step true ss e = ap (λ (rs : List Segment). segment_of file h ∷ rs) e
@@ -149,7 +149,7 @@ pub record Passes (n at : ℕ) (hs : List ProgramHeader) : Type 0 where
   pub span : ltb (room_span Any) (code_span hs) ≡ false
   pub size : ltb (room_size Any) (pages_size hs) ≡ false
 
-passes : (file : List ℕ) → refusal_of file Any ≡ None → Passes (length file) (entry file) (segments_of file)
+passes : (file : List ℕ) → refusal_of file Any ≡ None → Passes (length file) (e_entry file) (segments_of file)
 unfolding refusal_of
 passes file e =
     let all = none_holds (tests file Any) e in
@@ -166,7 +166,7 @@ passes file e =
       size = from_shared.1.1.1.0;
     }
 
-segments_can_be_written : (file : List ℕ) → AllByRecursion (λ b. b < 256) file → refusal_of file Any ≡ None → CanBeWritten (segments file (segments_of file)) (entry file)
+segments_can_be_written : (file : List ℕ) → AllByRecursion (λ b. b < 256) file → refusal_of file Any ≡ None → CanBeWritten (segments file (segments_of file)) (e_entry file)
 segments_can_be_written file bytes e =
     let hs : List ProgramHeader = segments_of file in
     let p = passes file e in
@@ -174,7 +174,7 @@ segments_can_be_written file bytes e =
       few = few_segments file bytes;
       each = all_have_places file hs (all_sound hs (filter_each is_segment (headers_of file)) p.small p.forbidden p.room);
       apart = none_meet file hs p.apart;
-      entered = runs_there file (entry file) hs (not-false (list_any (has_address (entry file)) (filter has_code hs)) p.entered);
+      entered = runs_there file (e_entry file) hs (not-false (list_any (has_address (e_entry file)) (filter has_code hs)) p.entered);
       span = rw (run_span_is file hs) (ltb-false (room_span Any) (code_span hs) p.span);
       total = rw (sizes_are file hs ∙ sym (ap (λ (n : ℕ). 4096 * n) (sum-map pages hs))) (ltb-false (room_size Any) (pages_size hs) p.size);
     }

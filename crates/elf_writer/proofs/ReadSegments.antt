@@ -33,8 +33,8 @@ length_either false x y n p q = q
 length_page_bytes : (file : List ℕ) (h : ProgramHeader) → length (page_bytes file h) ≡ 4096 * (file_end_page h - first_page h)
 length_page_bytes file h =
     let n : ℕ = 4096 * (file_end_page h - first_page h) in
-    let window_long : length (window file (h.offset - h.address % 4096) n) ≡ n = length_window file (h.offset - h.address % 4096) n in
-    length_either (ltb h.file_size h.memory_size && has h.flags 2) _ _ n (length_zeroed (h.address % 4096 + h.file_size) n _ window_long) window_long
+    let window_long : length (window file (h.p_offset - h.p_vaddr % 4096) n) ≡ n = length_window file (h.p_offset - h.p_vaddr % 4096) n in
+    length_either (ltb h.p_filesz h.p_memsz && has h.p_flags 2) _ _ n (length_zeroed (h.p_vaddr % 4096 + h.p_filesz) n _ window_long) window_long
 
 -- ---- a header that passes
 pub record IsSound (h : ProgramHeader) : Type 0 where
@@ -85,14 +85,14 @@ some_memory file memory e h = grind (arith, nat_tests)
 pub has_place : (file : List ℕ) (h : ProgramHeader) → IsSound h → HasItsPlace (segment_of file h)
 has_place file h s =
     let long : length (page_bytes file h) ≡ 4096 * (file_end_page h - first_page h) = length_page_bytes file h in
-    let small : h.file_size ≤ h.memory_size = ltb-false h.memory_size h.file_size s.small in
-    let room = or_parts (ltb h.address 4096) (ltb (room_end Any) (h.address + h.memory_size)) s.room in
-    let from : 4096 ≤ h.address = ltb-false h.address 4096 room.0 in
-    let to : h.address + h.memory_size ≤ room_end Any = ltb-false (room_end Any) (h.address + h.memory_size) room.1 in
-    let kinds = and_parts (h.kind == 1) (not (h.file_size == 0 && h.memory_size == 0)) s.segment in
-    let some : 0 < h.memory_size = some_memory h.file_size h.memory_size (not-true (h.file_size == 0 && h.memory_size == 0) kinds.1) small in
-    let perms = or_parts (not (has h.flags 4)) (has h.flags 2 && has h.flags 1) s.forbidden in
-    let low = has_low h.flags in
+    let small : h.p_filesz ≤ h.p_memsz = ltb-false h.p_memsz h.p_filesz s.small in
+    let room = or_parts (ltb h.p_vaddr 4096) (ltb (room_end Any) (h.p_vaddr + h.p_memsz)) s.room in
+    let from : 4096 ≤ h.p_vaddr = ltb-false h.p_vaddr 4096 room.0 in
+    let to : h.p_vaddr + h.p_memsz ≤ room_end Any = ltb-false (room_end Any) (h.p_vaddr + h.p_memsz) room.1 in
+    let kinds = and_parts (h.p_type == 1) (not (h.p_filesz == 0 && h.p_memsz == 0)) s.segment in
+    let some : 0 < h.p_memsz = some_memory h.p_filesz h.p_memsz (not-true (h.p_filesz == 0 && h.p_memsz == 0) kinds.1) small in
+    let perms = or_parts (not (has h.p_flags 4)) (has h.p_flags 2 && has h.p_flags 1) s.forbidden in
+    let low = has_low h.p_flags in
     record {
       start_in_pages = omega arith;
       size_in_pages = omega arith;
@@ -102,6 +102,6 @@ has_place file h s =
       from = omega (arith, from);
       to = omega (arith, to);
       perm = omega arith;
-      readable = low.2 ∙ not-false (has h.flags 4) perms.0;
+      readable = low.2 ∙ not-false (has h.p_flags 4) perms.0;
       not_both = rw (low.0, low.1) perms.1;
     }

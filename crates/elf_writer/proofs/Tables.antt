@@ -39,7 +39,7 @@ word_from file i j =
     place k n e = ap (λ (m : ℕ). get_or file m 0) e ∙ sym (get_or-drop i file k 0)
 
 abbrev header : ℕ → ℕ → ℕ → ℕ → ℕ → ℕ → ProgramHeader
-header k o a f m g = record { kind = k; offset = o; address = a; file_size = f; memory_size = m; flags = g }
+header k o a f m g = record { p_type = k; p_offset = o; p_vaddr = a; p_filesz = f; p_memsz = m; p_flags = g }
 
 same_header : {k o a f m g k' o' a' f' m' g' : ℕ} → k ≡ k' → o ≡ o' → a ≡ a' → f ≡ f' → m ≡ m' → g ≡ g'
     → header k o a f m g ≡ header k' o' a' f' m' g'
@@ -51,16 +51,16 @@ header_from file i =
     same_header first (word_from file i 4) (word_from file i 8) (word_from file i 16) (word_from file i 20) (word_from file i 24)
 
 pub record FitsWords (h : ProgramHeader) : Type 0 where
-  pub kind : h.kind < 4294967296
-  pub offset : h.offset < 4294967296
-  pub address : h.address < 4294967296
-  pub file_size : h.file_size < 4294967296
-  pub memory_size : h.memory_size < 4294967296
-  pub flags : h.flags < 4294967296
+  pub p_type : h.p_type < 0x100000000
+  pub p_offset : h.p_offset < 0x100000000
+  pub p_vaddr : h.p_vaddr < 0x100000000
+  pub p_filesz : h.p_filesz < 0x100000000
+  pub p_memsz : h.p_memsz < 0x100000000
+  pub p_flags : h.p_flags < 0x100000000
 
 header_again : (h : ProgramHeader) (rest : List ℕ) → FitsWords h → header_at (header_bytes h ++ rest) 0 ≡ h
 unfolding header_bytes
-header_again h rest f = same_header (word_again h.kind f.kind) (word_again h.offset f.offset) (word_again h.address f.address) (word_again h.file_size f.file_size) (word_again h.memory_size f.memory_size) (word_again h.flags f.flags)
+header_again h rest f = same_header (word_again h.p_type f.p_type) (word_again h.p_offset f.p_offset) (word_again h.p_vaddr f.p_vaddr) (word_again h.p_filesz f.p_filesz) (word_again h.p_memsz f.p_memsz) (word_again h.p_flags f.p_flags)
 
 pub headers_read : (file : List ℕ) (i : ℕ) (hs : List ProgramHeader) (rest : List ℕ) → drop i file ≡ flat_map header_bytes hs ++ rest → AllByRecursion FitsWords hs → headers_from file i (length hs) ≡ hs
 unfolding headers_from
@@ -73,13 +73,13 @@ headers_read file i (h ∷ hs) rest at fit =
     let more : headers_from file (i + 32) (length hs) ≡ hs = headers_read file (i + 32) hs rest then fit.1 in
     cc
 
-pub headers_fit : (offset : ℕ) (ss : List Segment) → AllByRecursion HasItsPlace ss → offset + length (data_of ss) < 4294967296 → AllByRecursion FitsWords (headers_for offset ss)
+pub headers_fit : (offset : ℕ) (ss : List Segment) → AllByRecursion HasItsPlace ss → offset + length (data_of ss) < 0x100000000 → AllByRecursion FitsWords (headers_for offset ss)
 headers_fit offset [] each h = tt
 headers_fit offset (s ∷ ss) each h =
     let place = each.0 in
     let long : length (s.bytes ++ data_of ss) ≡ length s.bytes + length (data_of ss) = length-append s.bytes (data_of ss) in
     let to = place.to in
     let perm = place.perm in (
-      record { kind = omega arith; offset = omega arith; address = omega arith; file_size = omega arith; memory_size = omega arith; flags = omega arith },
+      record { p_type = omega arith; p_offset = omega arith; p_vaddr = omega arith; p_filesz = omega arith; p_memsz = omega arith; p_flags = omega arith },
       headers_fit (offset + length s.bytes) ss each.1 (omega (arith, long)),
     )

@@ -11,10 +11,11 @@ use Rattle.elf_image.specs.Rows.{file_header, segment_header}
 use Rattle.elf_writer.specs.Wanted.{CanBeWritten, image_with}
 use Rattle.elf_writer.specs.Written.{data_of, data_start, written}
 
+-- the file of an image that can be written is accepted in the wide room, as this image
 abbrev pub WrittenIsAccepted : Type 0
 WrittenIsAccepted = (segments : List Segment) (entry : ℕ) → CanBeWritten segments entry → image_of (written segments entry) Any ≡ Ok (image_with segments entry)
 
--- no more than the pages of the headers and the bytes of the segments
+-- a written file is as long as the pages of its headers and the bytes of its segments, and no longer
 abbrev pub LengthOfWritten : Type 0
 LengthOfWritten = (segments : List Segment) (entry : ℕ) → length (written segments entry) ≡ data_start (length segments) + length (data_of segments)
 
@@ -22,9 +23,11 @@ LengthOfWritten = (segments : List Segment) (entry : ℕ) → length (written se
 abbrev pub plain_segments : List ℕ → List Segment
 plain_segments text = record { start = 0x08049000; size = 4096; perm = record { 0 = 5 }; bytes = text } ∷ room_segment ∷ []
 
+-- the file of these two segments is the one that `elf_image` has written out
 abbrev pub PlainIsWritten : Type 0
 PlainIsWritten = (text : List ℕ) → length text ≡ 4096 → written (plain_segments text) 0x08049000
     ≡ file_header 2 ++ segment_header 0x1000 0x08049000 4096 4096 5 ++ segment_header 0x2000 0x0804A000 0 4096 6 ++ zeros 3980 ++ text
 
+-- the image of every file of bytes that the wide room accepts can be written
 abbrev pub ReadImagesCanBeWritten : Type 0
 ReadImagesCanBeWritten = (file : List ℕ) (image : Image) → image_of file Any ≡ Ok image → AllByRecursion (λ b. b < 256) file → CanBeWritten image.segments image.entry

@@ -10,37 +10,42 @@ use Rattle.byte_lists.specs.LittleEndian.{half_bytes, word_bytes, zeros}
 abbrev pub ident : List ℕ
 ident = 0x7F ∷ 0x45 ∷ 0x4C ∷ 0x46 ∷ 1 ∷ 1 ∷ 1 ∷ 0 ∷ 0 ∷ 0 ∷ 0 ∷ 0 ∷ 0 ∷ 0 ∷ 0 ∷ 0 ∷ []
 
--- ET_EXEC, EM_386, EV_CURRENT, the entry, the program headers at 52, no sections, no flags
+-- the file's header: ET_EXEC, EM_386, EV_CURRENT, e_entry, the program headers at 52, no sections, no flags, and the sizes of this
+-- header and of a program header
 unfoldable pub elf_header : ℕ → ℕ → List ℕ
 elf_header entry count =
     ident ++ half_bytes 2 ++ half_bytes 3 ++ word_bytes 1 ++ word_bytes entry ++ word_bytes 52 ++ word_bytes 0 ++ word_bytes 0 ++ half_bytes 52 ++ half_bytes 32 ++ half_bytes count ++ half_bytes 0 ++ half_bytes 0 ++ half_bytes 0
 
--- p_type, p_offset, p_vaddr, p_paddr (the same), p_filesz, p_memsz, p_flags, p_align (a page)
+-- the bytes of a program header: p_type, p_offset, p_vaddr, p_paddr (the same), p_filesz, p_memsz, p_flags, p_align (a page)
 unfoldable pub header_bytes : ProgramHeader → List ℕ
-header_bytes h = word_bytes h.kind ++ word_bytes h.offset ++ word_bytes h.address ++ word_bytes h.address ++ word_bytes h.file_size ++ word_bytes h.memory_size ++ word_bytes h.flags ++ word_bytes 4096
+header_bytes h = word_bytes h.p_type ++ word_bytes h.p_offset ++ word_bytes h.p_vaddr ++ word_bytes h.p_vaddr ++ word_bytes h.p_filesz ++ word_bytes h.p_memsz ++ word_bytes h.p_flags ++ word_bytes 4096
 
--- the header of a segment (PT_LOAD) whose bytes stand at an offset
+-- the program header of a segment (PT_LOAD) whose bytes stand at an offset
 abbrev pub header_for : ℕ → Segment → ProgramHeader
-header_for offset s = record { kind = 1; offset = offset; address = s.start; file_size = length s.bytes; memory_size = s.size; flags = s.perm.0 }
+header_for offset s = record { p_type = 1; p_offset = offset; p_vaddr = s.start; p_filesz = length s.bytes; p_memsz = s.size; p_flags = s.perm.0 }
 
--- those of segments whose bytes stand one after the other from an offset on
+-- the program headers of segments whose bytes stand one after the other from an offset on
 abbrev pub headers_for : ℕ → List Segment → List ProgramHeader
 headers_for offset [] = []
 headers_for offset (s ∷ ss) = header_for offset s ∷ headers_for (offset + length s.bytes) ss
 
+-- the bytes of these program headers, one after the other
 abbrev pub table_bytes : ℕ → List Segment → List ℕ
 table_bytes offset ss = flat_map header_bytes (headers_for offset ss)
 
+-- the bytes of the segments, one after the other
 abbrev pub data_of : List Segment → List ℕ
 data_of ss = flat_map (λ s. s.bytes) ss
 
--- the end of so many program headers, and the first page after it
+-- the offset at which that many program headers end
 abbrev pub table_end : ℕ → ℕ
 table_end count = 52 + 32 * count
 
+-- the offset of the first page after them
 abbrev pub data_start : ℕ → ℕ
 data_start count = 4096 * ((table_end count + 4095) / 4096)
 
+-- the file of these segments and this entry
 unfoldable pub written : List Segment → ℕ → List ℕ
 written ss entry =
     elf_header entry (length ss) ++ table_bytes (data_start (length ss)) ss ++ zeros (data_start (length ss) - table_end (length ss)) ++ data_of ss

@@ -23,16 +23,16 @@ pub(crate) fn push_elf_header(out: &mut Vec<u8>, entry: u32, count: u16) -> Resu
 
 /// The program header of a segment whose bytes stand at an offset.
 fn header_for(offset: u32, segment: &Segment) -> ProgramHeader
-    requires { length segment.now.bytes < 4294967296 }
+    requires { length segment.now.bytes < 0x100000000 }
     ensures { result ≡ header_for offset segment.now }
 {
     ProgramHeader {
-        kind: 1,
-        offset,
-        address: segment.start,
-        file_size: segment.bytes.len() as u32,
-        memory_size: segment.size,
-        flags: segment.perm.0,
+        p_type: 1,
+        p_offset: offset,
+        p_vaddr: segment.start,
+        p_filesz: segment.bytes.len() as u32,
+        p_memsz: segment.size,
+        p_flags: segment.perm.0,
     }
 }
 
@@ -44,14 +44,7 @@ fn push_header(out: &mut Vec<u8>, h: ProgramHeader) -> Result<(), AllocError>
     push_words(
         out,
         &[
-            h.kind,
-            h.offset,
-            h.address,
-            h.address,
-            h.file_size,
-            h.memory_size,
-            h.flags,
-            4096,
+            h.p_type, h.p_offset, h.p_vaddr, h.p_vaddr, h.p_filesz, h.p_memsz, h.p_flags, 4096,
         ],
     )
 }
@@ -62,14 +55,14 @@ pub(crate) fn push_table(
     start: u32,
     segments: &[Segment],
 ) -> Result<(), AllocError>
-    requires { start + length (data_of segments.now) < 4294967296 }
+    requires { start + length (data_of segments.now) < 0x100000000 }
     ensures { OnOk result (out.new.items ≡ out.old.items ++ table_bytes start segments.now) }
 {
     let mut offset = start;
     for segment in segments {
         let header = header_for(offset, segment);
         push_header(out, header)?;
-        offset += header.file_size;
+        offset += header.p_filesz;
     }
     Ok(())
 }

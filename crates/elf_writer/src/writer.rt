@@ -13,7 +13,7 @@ use std::alloc::{AllocError, Global};
 /// The file with these segments, which begins to run at the entry. Its program headers stand in the order of the
 /// segments, right after its header, and the bytes of the segments from the next multiple of 4,096 on; there are no
 /// sections. For a file that is loaded the gABI ("Program Header") wants the segments in ascending order of their
-/// addresses. Only memory can be wanting.
+/// addresses. It fails only where memory runs out.
 pub fn write_image(alloc: Global, segments: &SegmentList, entry: u32) -> Result<Vec<u8>, AllocError>
     requires wanted { CanBeWritten segments.now entry }
     ensures exact { IfOk result (λ file. file.items ≡ written segments.now entry) }
@@ -33,7 +33,7 @@ pub fn write_image(alloc: Global, segments: &SegmentList, entry: u32) -> Result<
 
 /// How many bytes the segments have in the file.
 fn data_len(segments: &[Segment]) -> usize
-    requires { length (data_of segments.now) < 4294967296 }
+    requires { length (data_of segments.now) < 0x100000000 }
     ensures { result ≡ length (data_of segments.now) }
 {
     let mut len = 0;

@@ -4,15 +4,15 @@ use Rattle.std.specs.Option.{option_map, option_map_or}
 use Rattle.image.specs.declared.image.Segment.{Segment}
 use Rattle.image.specs.declared.image.Image.{Image}
 
--- whether a set of permissions has this one: X 1, W 2, R 4
+-- whether a set of permissions has this one: PF_X 1, PF_W 2, PF_R 4
 abbrev pub has : ℕ → ℕ → Bool
 has flags bit = (flags / bit % 2) == 1
 
--- the address lies in the segment
+-- an address lies in a segment
 abbrev pub holds : ℕ → Segment → Bool
 holds a s = leb s.start a && ltb a (s.start + s.size)
 
--- the segment that has an address
+-- the first segment of the list that has the address
 unfoldable pub segment_at : Image → ℕ → Option Segment
 segment_at image a = find (holds a) image.segments
 
@@ -41,7 +41,7 @@ code_byte_in a (Some s) = cond (has s.perm.0 1) (Some (byte_in a s)) None
 abbrev pub code_byte_at : Image → ℕ → Option ℕ
 code_byte_at image a = code_byte_in a (segment_at image a)
 
--- a byte and those behind it, where there is one
+-- a byte and the bytes behind it; none where there is no byte
 abbrev pub then_code : Option ℕ → List ℕ → List ℕ
 then_code None bytes = []
 then_code (Some b) bytes = b ∷ bytes

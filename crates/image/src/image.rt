@@ -5,13 +5,16 @@ use crate::Perm;
 use byte_lists::ByteList;
 use std::marker::Model;
 
-/// A run of pages. `start` and `size` are multiples of 4,096; `bytes` are those of the segment's file pages, in whole
-/// pages too, and every byte after them is 0.
+/// Pages that follow each other, and what may be done with them.
 #[derive(Debug, Drop)]
 pub struct Segment {
+    /// The address of its first byte, a multiple of 4,096.
     pub start: u32,
+    /// How many bytes it has in memory, a multiple of 4,096.
     pub size: u32,
+    /// What may be done with its bytes.
     pub perm: Perm,
+    /// The bytes of its first pages, in whole pages; every byte after them is 0.
     pub bytes: ByteList,
 }
 
@@ -46,9 +49,11 @@ impl SegmentList {
     }
 }
 
-/// What a file puts into memory, and the address at which it begins to run.
+/// What a file puts into memory.
 #[derive(Debug, Drop)]
 pub struct Image {
+    /// Its segments, in the order of their program headers.
     pub segments: SegmentList,
+    /// The address at which the program begins to run.
     pub entry: u32,
 }

@@ -3,10 +3,12 @@
 
 mod address;
 mod image;
+mod laws;
 mod perm;
 #[cfg(test)]
 mod tests;
 
 pub use address::{byte_at, can_run};
 pub use image::{Image, Segment, SegmentList};
+pub use laws::worked_addresses;
 pub use perm::Perm;

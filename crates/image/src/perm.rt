@@ -3,7 +3,7 @@ ghost use Rattle.std.specs.Prelude.{⊤, [], ◌∷◌, codes};
 
 use bitflags::{Flag, Flags, bitflag_items};
 
-/// A set of permissions: X is 1, W is 2, R is 4 (gABI, "Segment Permissions").
+/// A set of permissions: X (PF_X) is 1, W (PF_W) is 2, R (PF_R) is 4 (gABI, "Segment Permissions").
 #[derive(Clone, Copy, PartialEq, Eq, Debug)]
 pub struct Perm(pub u32);
 

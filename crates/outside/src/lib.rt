@@ -2,5 +2,7 @@
 #![tactic(auto)]
 
 mod answer;
+mod laws;
 
 pub use answer::Answer;
+pub use laws::worked_answers;
