@@ -164,8 +164,8 @@ module _ (laws : FileLaws) (names : Names) (a b : Told) (f : Finishes names a b)
       }
 
 -- the files after the calls and the line, and the lines
-abbrev Leaves : Names → End → Told → Told → Type 0
-Leaves names end a b = RewriteLeaves names end a b × LineAfter (line_of end) a b
+abbrev FilesAndLine : Names → End → Told → Told → Type 0
+FilesAndLine names end a b = RewriteLeaves names end a b × LineAfter (line_of end) a b
 
 module _ (laws : FileLaws) (names : Names) (apart : names.to ≢ names.map) (a m b : Told) where
   module _ (text : List ℕ) (line : AddsLine text m b) where
@@ -188,7 +188,7 @@ module _ (laws : FileLaws) (names : Names) (apart : names.to ≢ names.map) (a m
     after_wants (wants_out s) = after_out s
     after_wants (wants_map s) = after_map s
 
-  pub leaves : (end : End) → PerformsRewrite names end a m → SaysLine (line_of end) m b → Leaves names end a b
+  pub leaves : (end : End) → PerformsRewrite names end a m → SaysLine (line_of end) m b → FilesAndLine names end a b
   leaves Done p says =
       let f : Finishes names a b = subst (λ t. Finishes names a t) (sym says) p in
       (has_both laws names a b f apart, both_lines laws names a b f)
