@@ -13,17 +13,19 @@ const HEADERS: [u8; 116] = [
     0, 0x10, 0, 0, // room
 ];
 
-// mov ebx, 7; mov eax, 1; int 0x80; hlt
+/// `mov ebx, 7; mov eax, 1; int 0x80; hlt`, which exits with status 7.
 pub const EXIT_SEVEN: &[u8] = b"\xBB\x07\0\0\0\xB8\x01\0\0\0\xCD\x80\xF4";
 
-// The new code of the above: the same, with a stop in the place of hlt.
+/// The new code of `EXIT_SEVEN`: the same, with `ud2` in the place of `hlt`.
 pub const NEW_EXIT_SEVEN: &[u8] = b"\xBB\x07\0\0\0\xB8\x01\0\0\0\xCD\x80\x0F\x0B";
 
-// push 3; push 2; call +13; add esp, 8; mov ebx, eax; mov eax, 1; int 0x80; hlt; mov eax, [esp + 4]; add eax, [esp + 8]; ret
+/// `push 3; push 2; call +13; add esp, 8; mov ebx, eax; mov eax, 1; int 0x80; hlt; mov eax, [esp + 4]; add eax, [esp + 8];
+/// ret`, which exits with status 5 and isn't rewritten yet.
 pub const ADD_TWO: &[u8] =
     b"\x6A\x03\x6A\x02\xE8\x0D\0\0\0\x83\xC4\x08\x89\xC3\xB8\x01\0\0\0\xCD\x80\xF4\x8B\x44\x24\x04\x03\x44\x24\x08\xC3";
 
-// The file with this code: both sizes are its length, and it stands at 0x1000, before zeros up to 0x2000.
+/// The plain file with this code: 8192 bytes, in which the code stands at 0x1000, before zeros. Both sizes of its segment
+/// are its length.
 pub fn file_of(alloc: Global, text: &[u8]) -> Result<Vec<u8>, AllocError>
     requires { length text.now ≤ 4096 }
     ensures { IfOk result (λ v. length v.items ≡ 8192) }
@@ -50,7 +52,8 @@ const NEW_HEADERS: [u8; 148] = [
     0x10, 0, 0, // new code
 ];
 
-// The file that is written for a plain one with this new code: it stands in whole pages, and both sizes are theirs.
+/// The file that is written for a plain file with this new code, which stands at 0x2000 in whole pages. Both sizes of its
+/// segment are the length of these pages.
 pub fn new_file_of(alloc: Global, file: &[u8], code: &[u8]) -> Result<Vec<u8>, AllocError>
     requires plain { length file.now ≡ 8192 }
     requires fits { length code.now ≤ 8192 }
@@ -67,7 +70,7 @@ pub fn new_file_of(alloc: Global, file: &[u8], code: &[u8]) -> Result<Vec<u8>, A
     Ok(new)
 }
 
-// So many times `mov eax, 1`, and then these bytes.
+/// So many times `mov eax, 1`, 5 bytes each, and then these bytes.
 pub fn moves_then(alloc: Global, count: usize, rest: &[u8]) -> Result<Vec<u8>, AllocError> {
     let mut text = Vec::new(alloc);
     for _ in 0..count {

@@ -9,17 +9,32 @@ use std::test::Fail;
 use sw_host::MemoryHost;
 use sw_top::{End, sw};
 
+/// What stands in OUT before a call.
 pub const OLD_OUT: &[u8] = b"an old OUT";
 
+/// What stands in MAP before a call.
 pub const OLD_MAP: &[u8] = b"an old MAP";
 
+/// The map that is written: one without entries.
 pub const NEW_MAP: &[u8] = b"secondwrite-map 1\n";
 
+/// The line after `Refused(NotYet)`.
 pub const NOT_YET: &[u8] = b"sw: refused NotYet";
 
+/// The line after `Host`.
+pub const HOST_FAULT: &[u8] = b"sw: host fault";
+
+/// The line after `Usage`.
+pub const USAGE: &[u8] = b"sw: usage";
+
+/// The line after `TooLong`.
+pub const TOO_LONG: &[u8] = b"sw: file too long";
+
+/// The words of a rewriting.
 pub const REWRITE: &[&str] = &["rewrite", "in", "out", "map"];
 
-// A call: its words, the file that is IN, and two calls of the host that fail, 0 for none.
+/// A call: its words, the bytes of the file `in`, and the numbers of two calls of the host that are to fail. The first call has
+/// number 1, and 0 stands for none.
 #[derive(Clone, Copy)]
 pub struct Call<'a> {
     pub words: &'a [&'a str],
@@ -27,7 +42,7 @@ pub struct Call<'a> {
     pub failing: [u64; 2],
 }
 
-// What a call leaves: its end, the three files, and the line, which is empty where none was said.
+/// What a call leaves: its end, the bytes of the files `in`, `out` and `map`, and the line, which is empty where none was said.
 #[derive(Clone, Copy)]
 pub struct Left<'a> {
     pub end: End,
@@ -48,7 +63,7 @@ fn host_with(alloc: Global, from: &[u8], failing: [u64; 2]) -> Result<MemoryHost
     Ok(host)
 }
 
-// The end of the top call with these words.
+/// The end of the top call with these words.
 pub fn end_of(alloc: Global, words: &[&str], host: &mut MemoryHost) -> Result<End, AllocError> {
     let mut owned = Vec::new(alloc);
     for word in words {
@@ -57,7 +72,7 @@ pub fn end_of(alloc: Global, words: &[&str], host: &mut MemoryHost) -> Result<En
     Ok(sw(alloc, owned.as_slice(), host))
 }
 
-// The one line that was said, or nothing.
+/// The one line that was said, or nothing where none was.
 pub fn line_of(host: &MemoryHost) -> &[u8] {
     match host.lines().as_slice() {
         [] => b"",
@@ -66,7 +81,7 @@ pub fn line_of(host: &MemoryHost) -> &[u8] {
     }
 }
 
-// The call leaves this.
+/// Makes the call, over a host with an old OUT and an old MAP, and compares what it leaves.
 pub fn expect(
     rt: &impl Abort,
     alloc: Global,
@@ -84,7 +99,7 @@ pub fn expect(
     Ok(())
 }
 
-// The file is rewritten to the one with this new code.
+/// The file is rewritten to the file with this new code.
 pub fn expect_code(
     rt: &impl Abort,
     alloc: Global,
@@ -113,7 +128,7 @@ pub fn expect_code(
     expect(rt, alloc, name, call, left)
 }
 
-// What a call leaves that stores nothing.
+/// What a call leaves that stores nothing.
 pub fn nothing_stored<'a>(end: End, from: &'a [u8], line: &'a [u8]) -> Left<'a> {
     let (out, map) = (OLD_OUT, OLD_MAP);
     Left {
@@ -130,7 +145,7 @@ fn line_of_refusal(alloc: Global, refusal: Refusal) -> Result<String, AllocError
     format!(in alloc; "sw: refused {refusal:?}")
 }
 
-// The file is refused, its line is said, and nothing is stored.
+/// The file is refused, the line of the refusal is said, and nothing is stored.
 pub fn expect_refusal(
     rt: &impl Abort,
     alloc: Global,
@@ -150,7 +165,8 @@ pub fn expect_refusal(
     expect(rt, alloc, name, call, left)
 }
 
-// The file with this text is rewritten to the one with this new code, or isn't taken yet.
+/// The plain file with this text, of at most 4096 bytes, is rewritten to the file with this new code. Without new code it is
+/// refused as `NotYet`.
 pub fn expect_answer(
     rt: &impl Abort,
     alloc: Global,

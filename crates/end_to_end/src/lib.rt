@@ -2,8 +2,12 @@
 #![tactic(auto)]
 
 #[cfg(test)]
+mod calls;
+#[cfg(test)]
 mod files;
 #[cfg(test)]
 mod hosts;
 #[cfg(test)]
-mod tests;
+mod refusals;
+#[cfg(test)]
+mod rewriting;

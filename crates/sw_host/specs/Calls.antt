@@ -7,39 +7,47 @@ use Rattle.sw_host.specs.Told.{Told, last_count}
 use Rattle.sw_host.specs.declared.host.HostFault.{HostFault}
 use Rattle.sw_host.specs.declared.host.HostFault.TheVariants.{Failed, Memory}
 
--- one more call was made, and nothing else is another
+-- The host with one more call in its count, which stops at its greatest number. Nothing else changes.
 unfoldable pub called : Told → Told
 called a = record a { calls = min (a.calls + 1) last_count }
 
--- whether the call that was just counted is to fail
+-- The call that was counted last is to fail.
 abbrev pub fails : Told → Bool
 fails a = a.failing a.calls
 
--- what a load of at most that many bytes gives, after it was counted
+-- What a load of at most that many bytes gives, after it was counted: nothing where it is to fail or there is no such file,
+-- and otherwise the front of the file.
 unfoldable pub loaded : Told → List ℕ → ℕ → Option (List ℕ)
 loaded a name limit = cond (fails a) None (option_map (take limit) (get a.files name))
 
+-- What a load does, by its answer. It changes nothing but the count of calls. Memory may be wanting at any load.
 abbrev pub Loads : List ℕ → ℕ → Result (Vec ℕ Global) HostFault → Told → Told → Type 0
 Loads name limit (Ok v) a b = (b ≡ called a) × (loaded b name limit ≡ Some v.items)
 Loads name limit (Err Failed) a b = (b ≡ called a) × (loaded b name limit ≡ None)
 Loads name limit (Err Memory) a b = b ≡ called a
 
+-- The host with these bytes as the file of that name. Nothing else changes.
 unfoldable pub with_file : Told → List ℕ → List ℕ → Told
 with_file a name bytes = record a { files = insert a.files name bytes }
 
--- the named file holds anything or isn't there, and nothing else is another
+-- The file of that name holds anything or isn't there. Nothing else changed.
 pub record Spoils (name : List ℕ) (a b : Told) : Type 0 where
   pub same : b ≡ record a { files = b.files }
   pub others : (q : List ℕ) → q ≢ name → get b.files q ≡ get a.files q
 
+-- What a store does, by its answer. After Ok the file is these bytes, and the call wasn't to fail. After Failed the call was
+-- to fail, and the file is spoiled, as it is after Memory.
 abbrev pub Stores : List ℕ → List ℕ → Result (Unit {0}) HostFault → Told → Told → Type 0
 Stores name bytes (Ok _) a b = (b ≡ with_file (called a) name bytes) × (fails (called a) ≡ false)
 Stores name bytes (Err Failed) a b = Spoils name (called a) b × (fails (called a) ≡ true)
 Stores name bytes (Err Memory) a b = Spoils name (called a) b
 
+-- The host with one more line, after the others. Nothing else changes.
 unfoldable pub with_line : Told → List ℕ → Told
 with_line a text = record a { lines = a.lines ++ text ∷ [] }
 
+-- What the call of a line does, by its answer. After Ok the line was added, and the call wasn't to fail. After Failed the call
+-- was to fail. After a fault nothing but the count of calls changed.
 abbrev pub Lines : List ℕ → Result (Unit {0}) HostFault → Told → Told → Type 0
 Lines text (Ok _) a b = (b ≡ with_line (called a) text) × (fails (called a) ≡ false)
 Lines text (Err Failed) a b = (b ≡ called a) × (fails (called a) ≡ true)

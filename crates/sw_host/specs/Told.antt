@@ -7,10 +7,11 @@ use Rattle.outside.specs.declared.answer.Answer.{Answer}
 use Rattle.sw_host.specs.declared.host.HostFault.{HostFault}
 use Rattle.sw_host.specs.declared.host.HostFault.TheVariants.{Failed, Memory}
 
--- from names, as lists of bytes, to lists of bytes
+-- Files by their names; names and files are lists of bytes.
 abbrev pub Files : Type 0
 Files = FinMap (slice_cmp nat_cmp) (List ℕ)
 
+-- All that a host tells.
 pub record Told : Type 0 where
   pub files : Files
   -- the input not yet taken
@@ -26,19 +27,19 @@ pub record Told : Type 0 where
   -- whether the call of that number is to fail
   pub failing : ℕ → Bool
 
--- where a host tells before a call, it does after it, and P holds of what it told before and after
+-- A host that tells before a call tells after it, and P holds of what it told before and after.
 pub record Tells (old new : Option Told) (P : Told → Told → Type 0) : Type 0 where
   pub at : (a : Told) → old ≡ Some a → (b : Told) × (new ≡ Some b) × P a b
 
--- the greatest number that a count comes to
+-- The greatest number that a count comes to.
 abbrev pub last_count : ℕ
 last_count = 2 ^ 64 - 1
 
--- a count has risen, or stands at its last value
+-- A count has risen, or stands at its greatest number.
 abbrev pub Rose : ℕ → ℕ → Type 0
 Rose before now = min (before + 1) last_count ≤ now
 
--- a count of faults never falls, and `Failed` comes only where it rose
+-- A count of faults never falls, and `Failed` comes only where it rose.
 abbrev pub HasCause : {T : Type 0} → ℕ → ℕ → Result T HostFault → Type 0
 HasCause before now (Err Failed) = (before ≤ now) × Rose before now
 HasCause before now (Err Memory) = before ≤ now

@@ -25,7 +25,7 @@ pub trait Host {
         ensures told { Tells (told self.old) (told self.new) (Loads name.now limit result) }
         ensures cause { HasCause (faults self.old) (faults self.new) result };
 
-    /// Makes a file these bytes. After a fault it holds anything; other files stay.
+    /// Makes a file these bytes. After a fault that file holds anything; other files stay.
     fn store(&mut self, name: &str, bytes: &[u8]) -> Result<(), HostFault>
         ensures told { Tells (told self.old) (told self.new) (Stores name.now bytes.now result) }
         ensures cause { HasCause (faults self.old) (faults self.new) result };

@@ -21,6 +21,7 @@ impl Model for LineList {
 }
 
 impl LineList {
+    /// The list of these lines.
     pub fn new(lines: Vec<ByteList>) -> LineList
         ensures { result ≡ lines.items }
     {
@@ -34,12 +35,14 @@ impl LineList {
         self.lines.as_slice()
     }
 
+    /// How many lines there are.
     pub fn len(&self) -> usize
         ensures { result ≡ length self.now }
     {
         self.lines.len()
     }
 
+    /// There are no lines.
     pub fn is_empty(&self) -> bool
         ensures { result ≡ (length self.now == 0) }
     {

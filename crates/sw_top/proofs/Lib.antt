@@ -1,6 +1,7 @@
-pub mod WordLemmas
-pub mod TellLemmas
 pub mod Chain
-pub mod Headlines
-pub mod LeavesLemmas
-pub mod DecidesLemmas
+pub mod TellLemmas
+pub mod StoredFiles
+pub mod FilesAfter
+pub mod DueAnswers
+pub mod Outcomes
+pub mod RowLemmas

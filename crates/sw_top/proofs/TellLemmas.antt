@@ -9,11 +9,8 @@ use Rattle.sw_host.specs.declared.host.HostFault.{HostFault}
 use Rattle.sw_host.specs.declared.host.HostFault.TheVariants.{Failed, Memory}
 use Rattle.sw_host.specs.Told.{Told, HasCause, Rose}
 use Rattle.sw_host.specs.Calls.{called, fails, loaded, with_file, Spoils, Loads, Stores}
-use Rattle.sw_top.specs.declared.end.End.{End}
-use Rattle.sw_top.specs.declared.end.End.TheVariants.{Done, Usage, TooLong, Refused, Host, Memory as NoMemory}
-use Rattle.sw_top.specs.Words.{Names, IsRewrite}
-use Rattle.sw_top.specs.Serves.{Serves, Reports}
-use Rattle.sw_top.specs.Performs.{limit, greatest_size, map_text, input, stored_out, IsInput, IsLoaded, PassesLimit, Finishes, Refuses, SpoilsOut, SpoilsMap, Fails, load_fails, out_fails, map_fails, Wants, before_stores, in_out, in_map, Performs}
+use Rattle.sw_top.specs.declared.command.Names.{Names}
+use Rattle.sw_top.specs.Rewriting.{limit, greatest_size, map_text, input, stored_out, IsInput, IsLoaded, PassesLimit, Finishes, Refuses, SpoilsOut, SpoilsMap, Fails, load_fails, out_fails, map_fails, WantsMemory, before_stores, in_out, in_map}
 
 -- a count of faults never falls
 pub has_cause : {T : Type 0} (before now : ℕ) (r : Result T HostFault) → HasCause before now r → before ≤ now
@@ -83,7 +80,7 @@ module _ (names : Names) (a : Told) where
   pub refused : (v : Vec ℕ Global) (r : Refusal) (b : Told) → length v.items ≤ greatest_size → IsRefused v.items r → Loads names.from limit (Ok v) a b → Refuses names r a b
   refused v r b fits h p = record { file = v.items; is_input = is_input v b fits p; refused = h; after = p.0 }
 
-  pub wants_memory : (b : Told) → b ≡ called a → Wants names a b
+  pub wants_memory : (b : Told) → b ≡ called a → WantsMemory names a b
   wants_memory b p = before_stores p
 
   -- a file was loaded and rewritten
@@ -97,7 +94,7 @@ module _ (names : Names) (a : Told) where
     pub out_failed : (b c : Told) → Loads names.from limit (Ok v) a b → Stores names.to out (Err Failed) b c → Fails names a c
     out_failed b c p q = out_fails (spoils_out b c p q.0) (subst (λ t. fails (called t) ≡ true) p.0 q.1)
 
-    pub out_wants : (b c : Told) → Loads names.from limit (Ok v) a b → Stores names.to out (Err Memory) b c → Wants names a c
+    pub out_wants : (b c : Told) → Loads names.from limit (Ok v) a b → Stores names.to out (Err Memory) b c → WantsMemory names a c
     out_wants b c p q = in_out (spoils_out b c p q)
 
     stored : (b c : Told) → Loads names.from limit (Ok v) a b → Stores names.to out (Ok tt) b c → c ≡ stored_out names out a
@@ -114,19 +111,10 @@ module _ (names : Names) (a : Told) where
     unfolding spoils_map
     map_failed b c d p q r = map_fails (spoils_map b c d p q r.0) (subst (λ t. fails (called t) ≡ true) (stored b c p q) r.1)
 
-    pub map_wants : (b c d : Told) → Loads names.from limit (Ok v) a b → Stores names.to out (Ok tt) b c → Stores names.map map_text (Err Memory) c d → Wants names a d
+    pub map_wants : (b c d : Told) → Loads names.from limit (Ok v) a b → Stores names.to out (Ok tt) b c → Stores names.map map_text (Err Memory) c d → WantsMemory names a d
     map_wants b c d p q r = in_map (spoils_map b c d p q r)
 
     pub finished : (b c d : Told) → Loads names.from limit (Ok v) a b → Stores names.to out (Ok tt) b c → Stores names.map map_text (Ok tt) c d → Finishes names a d
     finished b c d p q r =
         let at = stored b c p q in
         record { out = out; is_loaded = is_loaded b p; first_store = out_ok b c p q; second_store = subst (λ t. fails (called t) ≡ false) at r.1; after = subst (λ t. d ≡ with_file (called t) names.map map_text) at r.0 }
-
--- the calls, and then the line
-pub served : (words : List (List ℕ)) (names : Names) (end : End) (a b c : Told) → IsRewrite words names → Performs names end a b → Reports end b c → Serves words end a c
-served words names Done a b c f p r = record { names = names; form = f; before_line = b; performs = p; reports = r }
-served words names Usage a b c f p r = absurd p
-served words names TooLong a b c f p r = record { names = names; form = f; before_line = b; performs = p; reports = r }
-served words names (Refused x) a b c f p r = record { names = names; form = f; before_line = b; performs = p; reports = r }
-served words names Host a b c f p r = record { names = names; form = f; before_line = b; performs = p; reports = r }
-served words names NoMemory a b c f p r = record { names = names; form = f; before_line = b; performs = p; reports = r }

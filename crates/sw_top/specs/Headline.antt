@@ -1,19 +1,19 @@
--- What a rewriting that is done means, in terms of files and their runs.
-use Rattle.std.specs.Prelude.{◌≡◌, ◌≢◌, ℕ, List, Some, Ok}
+-- What a command that is done means, in terms of files and their runs.
+use Rattle.std.specs.Prelude.{◌≡◌, ◌≢◌, ℕ, List, Option, Some, None, Ok}
 use Rattle.std.specs.FinMap.{get}
 use Rattle.image.specs.declared.image.Image.{Image}
 use Rattle.elf_image.specs.declared.refusal.Room.TheVariants.{Source, Any}
 use Rattle.elf_image.specs.Image.{image_of}
 use Rattle.rewrite_core.specs.Agreement.{RunsAgree}
 use Rattle.sw_host.specs.Told.{Told}
-use Rattle.sw_top.specs.Words.{Names, IsRewrite}
-use Rattle.sw_top.specs.Performs.{map_text}
+use Rattle.sw_top.specs.declared.command.Names.{Names}
+use Rattle.sw_top.specs.declared.command.Command.{Command}
+use Rattle.sw_top.specs.declared.command.Command.TheVariants.{Rewrite}
+use Rattle.sw_top.specs.Rewriting.{map_text}
 
 -- The file IN before the call and the file OUT after it are read as images, in the room of files that are rewritten and in
--- the wide room, and the runs of the two images agree; MAP is the stated text, and all other files are as they were.
-pub record Rewrote (words : List (List ℕ)) (a b : Told) : Type 0 where
-  pub names : Names
-  pub form : IsRewrite words names
+-- the wide room, and the runs of the two images agree. MAP is the stated text, and no other file changed.
+pub record Rewrote (names : Names) (a b : Told) : Type 0 where
   pub file : List ℕ
   pub out : List ℕ
   pub had : get a.files names.from ≡ Some file
@@ -25,3 +25,8 @@ pub record Rewrote (words : List (List ℕ)) (a b : Told) : Type 0 where
   pub read : image_of file Source ≡ Ok old
   pub accepted : image_of out Any ≡ Ok new
   pub agree : RunsAgree old new
+
+-- What Done means, by the command. Words that spell no command are never done.
+abbrev pub AfterDone : Option Command → Told → Told → Type 0
+AfterDone None a b = ⊥
+AfterDone (Some (Rewrite names)) a b = Rewrote names a b

@@ -1,10 +1,12 @@
-pub mod Words
+pub mod Commands
 pub mod Ends
-pub mod Performs
+pub mod Rewriting
 pub mod Serves
-pub mod Leaves
-pub mod Decides
+pub mod RewriteOutcome
+pub mod Outcome
 pub mod Headline
+pub mod Laws
+pub mod Rows
 pub use Rattle.sw_host.specs.Told
 pub use Rattle.sw_host.specs.Calls
 pub use Rattle.rewrite_core.specs.Rewrites

@@ -1,39 +1,36 @@
--- What the top call does to a host that tells.
+-- What the top call does to a host that tells, by the command that its words spell.
 use Rattle.std.specs.Prelude.{◌≡◌, ℕ, List, Option, Some, None, Result}
 use Rattle.sw_host.specs.declared.host.HostFault.{HostFault}
 use Rattle.sw_host.specs.Told.{Told}
 use Rattle.sw_host.specs.Calls.{Lines}
+use Rattle.sw_top.specs.declared.command.Command.{Command}
+use Rattle.sw_top.specs.declared.command.Command.TheVariants.{Rewrite}
 use Rattle.sw_top.specs.declared.end.End.{End}
-use Rattle.sw_top.specs.declared.end.End.TheVariants.{Done, Usage, TooLong, Refused, Host, Memory}
-use Rattle.sw_top.specs.Words.{Names, IsRewrite, HasForm}
+use Rattle.sw_top.specs.declared.end.End.TheVariants.{Usage}
 use Rattle.sw_top.specs.Ends.{line_of}
-use Rattle.sw_top.specs.Performs.{Performs}
+use Rattle.sw_top.specs.Rewriting.{PerformsRewrite}
 
--- the line of an end is said once, where it has one; whether that failed changes nothing else
-abbrev pub Says : Option (List ℕ) → Told → Told → Type 0
-Says None a b = b ≡ a
-Says (Some text) a b = (answer : Result (Unit {0}) HostFault) × Lines text answer a b
+-- A line is said once, where there is one, and its call changes nothing else, whatever it answers.
+abbrev pub SaysLine : Option (List ℕ) → Told → Told → Type 0
+SaysLine None a b = b ≡ a
+SaysLine (Some text) a b = (answer : Result (Unit {0}) HostFault) × Lines text answer a b
 
-abbrev pub Reports : End → Told → Told → Type 0
-Reports end a b = Says (line_of end) a b
+-- The calls of a command that ends so, before the line.
+abbrev pub Performs : Command → End → Told → Told → Type 0
+Performs (Rewrite names) end a b = PerformsRewrite names end a b
 
--- the calls of a rewriting, and then the line
-pub record Rewriting (words : List (List ℕ)) (end : End) (a b : Told) : Type 0 where
-  pub names : Names
-  pub form : IsRewrite words names
+-- The calls of the command come first, and then the line of its end.
+pub record PerformsThenSays (command : Command) (end : End) (a b : Told) : Type 0 where
   pub before_line : Told
-  pub performs : Performs names end a before_line
-  pub reports : Reports end before_line b
+  pub performs : Performs command end a before_line
+  pub says : SaysLine (line_of end) before_line b
 
--- words without a form: the line alone
-pub record NoForm (words : List (List ℕ)) (a b : Told) : Type 0 where
-  pub form : HasForm words → ⊥
-  pub reports : Reports Usage a b
+-- The words spell no command: the line of Usage is all.
+pub record SaysUsage (end : End) (a b : Told) : Type 0 where
+  pub is_usage : end ≡ Usage
+  pub says : SaysLine (line_of Usage) a b
 
-abbrev pub Serves : List (List ℕ) → End → Told → Told → Type 0
-Serves words Usage a b = NoForm words a b
-Serves words Done a b = Rewriting words Done a b
-Serves words TooLong a b = Rewriting words TooLong a b
-Serves words (Refused r) a b = Rewriting words (Refused r) a b
-Serves words Host a b = Rewriting words Host a b
-Serves words Memory a b = Rewriting words Memory a b
+-- What a call does whose words spell this command, or none.
+abbrev pub Serves : Option Command → End → Told → Told → Type 0
+Serves None end a b = SaysUsage end a b
+Serves (Some command) end a b = PerformsThenSays command end a b

@@ -1,10 +1,12 @@
 //! The top call: words to host calls, an end, its line and its status.
 #![tactic(auto)]
 
+mod command;
 mod end;
-mod perform;
+mod laws;
+mod rewriting;
 mod top;
-mod words;
 
 pub use end::{End, status};
+pub use laws::{command_laws, worked_rows};
 pub use top::sw;

@@ -1,51 +1,62 @@
 // The top call.
-ghost use Rattle.std.specs.Prelude.{◌≡◌, ◌≤◌, ◌↔◌};
+ghost use Rattle.std.specs.Prelude.{◌≡◌, ◌≤◌, ◌↔◌, None};
 ghost use Rattle.sw_host.specs.Told.{Tells, Rose};
-ghost use Rattle.sw_top.specs.Words.{texts, HasForm};
-ghost use Rattle.sw_top.specs.Serves.{Serves, Reports};
-ghost use Rattle.sw_top.specs.Leaves.{Leaves};
-ghost use Rattle.sw_top.specs.Decides.{Decides};
-ghost use Rattle.sw_top.specs.Headline.{Rewrote};
+ghost use Rattle.sw_top.specs.Commands.{texts, command_of};
+ghost use Rattle.sw_top.specs.Ends.{line_of};
+ghost use Rattle.sw_top.specs.Serves.{Performs, SaysLine, Serves};
+ghost use Rattle.sw_top.specs.Outcome.{Outcome};
+ghost use Rattle.sw_top.specs.Headline.{AfterDone};
 
 use crate::End;
+use crate::command::{Command, command_of};
 use crate::end::line_of;
-use crate::perform::perform;
-use crate::words::files_in;
+use crate::laws::command_laws;
+use crate::rewriting::perform_rewrite;
 use elf_image::image_laws;
 use std::alloc::Global;
 use sw_host::{Host, host_laws};
 
-/// Serves `rewrite IN OUT MAP`, OUT and MAP different: loads IN, which may have 16 MiB, stores the new file as OUT and the
-/// text of its map as MAP. Then it says the line of its end, where that has one; a line that fails changes nothing. Memory can be wanting at
-/// any place from the load on; what was stored before stays.
+/// Serves the command that the words spell: makes its calls of the host, and says the line of its end, where that has one. A
+/// line that fails changes nothing. Words that spell no command are answered `Usage`, with its line alone. Memory can be
+/// wanting at any call of the host from the first on; what was stored before stays.
 pub fn sw<H: Host>(alloc: Global, words: &[String], host: &mut H) -> End
-    ensures serves { Tells (H.told host.old) (H.told host.new) (Serves (texts words.now) result) }
-    // The same in terms of the files, the number of calls and the lines.
-    ensures leaves { Tells (H.told host.old) (H.told host.new) (Leaves (texts words.now) result) }
-    // Which answer comes where memory is left.
-    ensures decides { Tells (H.told host.old) (H.told host.new)
-        (Decides (texts words.now) result (Rose (H.faults host.old) (H.faults host.new))) }
+    ensures serves { Tells (H.told host.old) (H.told host.new) (Serves (command_of (texts words.now)) result) }
+    // The answer, the files, the number of calls and the line.
+    ensures outcome { Tells (H.told host.old) (H.told host.new)
+        (Outcome (command_of (texts words.now)) result (Rose (H.faults host.old) (H.faults host.new))) }
     // After Done the run of the written file agrees with that of the old one.
-    ensures headline { result ≡ End.Done → Tells (H.told host.old) (H.told host.new) (Rewrote (texts words.now)) }
-    // The words have no form exactly where this is the answer, whatever the host.
-    ensures usage { (result ≡ End.Usage) ↔ (HasForm (texts words.now) → ⊥) }
+    ensures headline { result ≡ End.Done → Tells (H.told host.old) (H.told host.new) (AfterDone (command_of (texts words.now))) }
+    // The words spell no command exactly where this is the answer, whatever the host.
+    ensures usage { (result ≡ End.Usage) ↔ (command_of (texts words.now) ≡ None) }
     // A call of the host failed, as its count of faults shows.
     ensures cause { result ≡ End.Host → Rose (H.faults host.old) (H.faults host.new) }
 {
+    command_laws();
     image_laws();
     host_laws();
-    let Some(files) = files_in(words) else {
+    let Some(command) = command_of(words) else {
         report(&End::Usage, host);
         return End::Usage;
     };
-    let end = perform(alloc, files.from, files.to, files.map, host);
+    let end = perform(alloc, &command, host);
     report(&end, host);
     end
 }
 
+// Makes the calls of a command.
+fn perform<H: Host>(alloc: Global, command: &Command, host: &mut H) -> End
+    ensures performs { Tells (H.told host.old) (H.told host.new) (Performs command.now result) }
+    ensures cause { result ≡ End.Host → Rose (H.faults host.old) (H.faults host.new) }
+    ensures form { result ≡ End.Usage → ⊥ }
+{
+    match command {
+        Command::Rewrite(names) => perform_rewrite(alloc, names, host),
+    }
+}
+
 // Says the line of an end, where it has one.
 fn report<H: Host>(end: &End, host: &mut H)
-    ensures reports { Tells (H.told host.old) (H.told host.new) (Reports end.now) }
+    ensures says { Tells (H.told host.old) (H.told host.new) (SaysLine (line_of end.now)) }
     ensures faults { H.faults host.old ≤ H.faults host.new }
 {
     if let Some(text) = line_of(end) {

@@ -1,17 +1,19 @@
--- What the calls leave, read off what they do.
-use Rattle.std.proofs.Common.{◌≡◌, ◌≢◌, ◌⊎◌, inl, inr, ℕ, ◌+◌, ◌<◌, ◌^◌, min, false, List, [], ◌∷◌, ◌++◌, Some, Result, Ok, Err, sym, ap, subst, ◌∙◌, arith}
+-- The files, the number of calls and the lines after a rewriting, read off its calls.
+use Rattle.std.proofs.Common.{◌≡◌, ◌≢◌, ℕ, ◌+◌, ◌<◌, ◌^◌, min, true, false, List, Some, Result, Ok, Err, sym, ap, subst, ◌∙◌, arith}
 use Rattle.std.specs.FinMap.{get}
 use Rattle.sw_host.specs.declared.host.HostFault.{HostFault}
 use Rattle.sw_host.specs.declared.host.HostFault.TheVariants.{Failed, Memory}
 use Rattle.sw_host.specs.Told.{Told, last_count}
 use Rattle.sw_host.specs.Calls.{called, fails, with_file, with_line, Lines}
+use Rattle.sw_top.specs.declared.command.Names.{Names}
 use Rattle.sw_top.specs.declared.end.End.{End}
 use Rattle.sw_top.specs.declared.end.End.TheVariants.{Done, Usage, TooLong, Refused, Host, Memory as NoMemory}
-use Rattle.sw_top.specs.Words.{Names, IsRewrite}
-use Rattle.sw_top.specs.Performs.{SpoilsOut, SpoilsMap, Finishes, Fails, load_fails, out_fails, map_fails, Wants, before_stores as wants_before, in_out as wants_out, in_map as wants_map}
-use Rattle.sw_top.specs.Serves.{Serves}
-use Rattle.sw_top.specs.Leaves.{KeepsFiles, LosesOut, LosesMap, HasBoth, AfterFault, before_stores, in_out, in_map, LeavesLines, Leaves}
-use Rattle.sw_top.proofs.Headlines.{FileLaws, has_map, has_out, keeps}
+use Rattle.sw_top.specs.Ends.{line_of}
+use Rattle.sw_top.specs.Rewriting.{SpoilsOut, SpoilsMap, Finishes, Fails, load_fails, out_fails, map_fails, WantsMemory, before_stores as wants_before, in_out as wants_out, in_map as wants_map, PerformsRewrite}
+use Rattle.sw_top.specs.Serves.{SaysLine}
+use Rattle.sw_top.specs.RewriteOutcome.{KeepsFiles, LosesOut, LosesMap, HasBoth, AfterFault, before_stores, in_out, in_map, RewriteLeaves}
+use Rattle.sw_top.specs.Outcome.{LineAnswered, LineAfter}
+use Rattle.sw_top.proofs.StoredFiles.{FileLaws, has_map, has_out, keeps}
 
 -- one more call, up to the last number
 abbrev next : ℕ → ℕ
@@ -33,18 +35,27 @@ four_times n m e h = omega (arith, e, h)
 record AddsLine (text : List ℕ) (m b : Told) : Type 0 where
   files : b.files ≡ m.files
   calls : b.calls ≡ next m.calls
-  lines : LeavesLines (Some text) m b
+  answer : Result (Unit {0}) HostFault
+  lines : LineAnswered text answer m.lines b
 
 adds_line : (text : List ℕ) (answer : Result (Unit {0}) HostFault) (m b : Told) → Lines text answer m b → AddsLine text m b
 unfolding called with_line
 adds_line text (Ok v) m b p =
-    record { files = ap (λ t. t.files) p.0; calls = ap (λ t. t.calls) p.0; lines = inl (ap (λ t. t.lines) p.0, subst (λ t. fails t ≡ false) (sym p.0) p.1) }
-adds_line text (Err Failed) m b p = record { files = ap (λ t. t.files) p.0; calls = ap (λ t. t.calls) p.0; lines = inr (ap (λ t. t.lines) p.0) }
-adds_line text (Err Memory) m b p = record { files = ap (λ t. t.files) p; calls = ap (λ t. t.calls) p; lines = inr (ap (λ t. t.lines) p) }
+    record { files = ap (λ t. t.files) p.0; calls = ap (λ t. t.calls) p.0; answer = Ok v; lines = (ap (λ t. t.lines) p.0, subst (λ t. fails t ≡ false) (sym p.0) p.1) }
+adds_line text (Err Failed) m b p =
+    record { files = ap (λ t. t.files) p.0; calls = ap (λ t. t.calls) p.0; answer = Err Failed; lines = (ap (λ t. t.lines) p.0, subst (λ t. fails t ≡ true) (sym p.0) p.1) }
+adds_line text (Err Memory) m b p =
+    record { files = ap (λ t. t.files) p; calls = ap (λ t. t.calls) p; answer = Err Memory; lines = ap (λ t. t.lines) p }
+
+-- words without a command: the line alone
+pub line_alone : (text : List ℕ) (answer : Result (Unit {0}) HostFault) (a b : Told) → Lines text answer a b → KeepsFiles 1 a b × LineAfter (Some text) a b
+line_alone text answer a b p =
+    let line = adds_line text answer a b p in
+    (record { calls = once a.calls b.calls line.calls; files = line.files }, (line.answer, line.lines))
 
 module _ (text : List ℕ) (a m b : Told) (line : AddsLine text m b) where
-  lines_from : m.lines ≡ a.lines → LeavesLines (Some text) a b
-  lines_from e = subst (λ ls. ((b.lines ≡ ls ++ text ∷ []) × (fails b ≡ false)) ⊎ (b.lines ≡ ls)) e line.lines
+  lines_from : m.lines ≡ a.lines → LineAfter (Some text) a b
+  lines_from e = (line.answer, subst (λ ls. LineAnswered text line.answer ls b) e line.lines)
 
   calls_from : (n : ℕ) → m.calls ≡ n → b.calls ≡ next n
   calls_from n e = line.calls ∙ ap next e
@@ -152,37 +163,37 @@ module _ (laws : FileLaws) (names : Names) (a b : Told) (f : Finishes names a b)
         map = ap (λ t. get t.files names.map) f.after ∙ has_map laws a names f.out;
       }
 
-module _ (laws : FileLaws) (words : List (List ℕ)) (names : Names) (form : IsRewrite words names) (text : List ℕ) (a m b : Told) (line : AddsLine text m b) where
-  after_fails : Fails names a m → AfterFault words a b × LeavesLines (Some text) a b
-  after_fails (load_fails e after) = (before_stores (keeps_files a m after text b line), lines_from text a m b line (loaded_lines a m after))
-  after_fails (out_fails s e) = (in_out names form (loses_out names a m s text b line), lines_from text a m b line (out_lines names a m s))
-  after_fails (map_fails s e) = (in_map names form (loses_map laws names a m s text b form.apart line), lines_from text a m b line (map_lines laws names a m s))
+-- the files after the calls and the line, and the lines
+abbrev FilesAndLine : Names → End → Told → Told → Type 0
+FilesAndLine names end a b = RewriteLeaves names end a b × LineAfter (line_of end) a b
 
-  after_wants : Wants names a m → AfterFault words a b × LeavesLines (Some text) a b
-  after_wants (wants_before after) = (before_stores (keeps_files a m after text b line), lines_from text a m b line (loaded_lines a m after))
-  after_wants (wants_out s) = (in_out names form (loses_out names a m s text b line), lines_from text a m b line (out_lines names a m s))
-  after_wants (wants_map s) = (in_map names form (loses_map laws names a m s text b form.apart line), lines_from text a m b line (map_lines laws names a m s))
+module _ (laws : FileLaws) (names : Names) (apart : names.to ≢ names.map) (a m b : Told) where
+  module _ (text : List ℕ) (line : AddsLine text m b) where
+    after_load : m ≡ called a → KeepsFiles 2 a b × LineAfter (Some text) a b
+    after_load after = (keeps_files a m after text b line, lines_from text a m b line (loaded_lines a m after))
 
-pub leaves : FileLaws → (words : List (List ℕ)) (end : End) (a b : Told) → Serves words end a b → Leaves words end a b
-leaves laws words Done a b s =
-    let f : Finishes s.names a b = subst (λ t. Finishes s.names a t) (sym s.reports) s.performs in
-    record { files = (s.names, s.form, has_both laws s.names a b f s.form.apart); lines = both_lines laws s.names a b f }
-leaves laws words Usage a b s =
-    let line = adds_line _ s.reports.0 a b s.reports.1 in
-    record { files = record { calls = once a.calls b.calls line.calls; files = line.files }; lines = line.lines }
-leaves laws words TooLong a b s =
-    let line = adds_line _ s.reports.0 s.before_line b s.reports.1 in
-    let after = s.performs.after in
-    record { files = keeps_files a s.before_line after _ b line; lines = lines_from _ a s.before_line b line (loaded_lines a s.before_line after) }
-leaves laws words (Refused r) a b s =
-    let line = adds_line _ s.reports.0 s.before_line b s.reports.1 in
-    let after = s.performs.after in
-    record { files = keeps_files a s.before_line after _ b line; lines = lines_from _ a s.before_line b line (loaded_lines a s.before_line after) }
-leaves laws words Host a b s =
-    let line = adds_line _ s.reports.0 s.before_line b s.reports.1 in
-    let both = after_fails laws words s.names s.form _ a s.before_line b line s.performs in
-    record { files = both.0; lines = both.1 }
-leaves laws words NoMemory a b s =
-    let line = adds_line _ s.reports.0 s.before_line b s.reports.1 in
-    let both = after_wants laws words s.names s.form _ a s.before_line b line s.performs in
-    record { files = both.0; lines = both.1 }
+    after_out : SpoilsOut names a m → AfterFault names a b × LineAfter (Some text) a b
+    after_out s = (in_out (loses_out names a m s text b line), lines_from text a m b line (out_lines names a m s))
+
+    after_map : SpoilsMap names a m → AfterFault names a b × LineAfter (Some text) a b
+    after_map s = (in_map (loses_map laws names a m s text b apart line), lines_from text a m b line (map_lines laws names a m s))
+
+    after_fails : Fails names a m → AfterFault names a b × LineAfter (Some text) a b
+    after_fails (load_fails e after) = let x = after_load after in (before_stores x.0, x.1)
+    after_fails (out_fails s e) = after_out s
+    after_fails (map_fails s e) = after_map s
+
+    after_wants : WantsMemory names a m → AfterFault names a b × LineAfter (Some text) a b
+    after_wants (wants_before after) = let x = after_load after in (before_stores x.0, x.1)
+    after_wants (wants_out s) = after_out s
+    after_wants (wants_map s) = after_map s
+
+  pub leaves : (end : End) → PerformsRewrite names end a m → SaysLine (line_of end) m b → FilesAndLine names end a b
+  leaves Done p says =
+      let f : Finishes names a b = subst (λ t. Finishes names a t) (sym says) p in
+      (has_both laws names a b f apart, both_lines laws names a b f)
+  leaves Usage p says = absurd p
+  leaves TooLong p says = after_load _ (adds_line _ says.0 m b says.1) p.after
+  leaves (Refused r) p says = after_load _ (adds_line _ says.0 m b says.1) p.after
+  leaves Host p says = after_fails _ (adds_line _ says.0 m b says.1) p
+  leaves NoMemory p says = after_wants _ (adds_line _ says.0 m b says.1) p

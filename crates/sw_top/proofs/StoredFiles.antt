@@ -1,13 +1,11 @@
--- What is done is told of files.
+-- What stands in the files after both stores.
 use Rattle.std.proofs.Common.{◌≡◌, ◌≢◌, ℕ, List, Some, ap, ◌∙◌}
 use Rattle.std.specs.FinMap.{get}
 use Rattle.sw_host.specs.Told.{Told}
 use Rattle.sw_host.specs.Calls.{called, with_file}
 use Rattle.sw_host.specs.Laws.{StoredFile, OtherFiles}
-use Rattle.sw_top.specs.declared.end.End.TheVariants.{Done}
-use Rattle.sw_top.specs.Words.{Names}
-use Rattle.sw_top.specs.Performs.{map_text, Finishes, stored_out, stored_both}
-use Rattle.sw_top.specs.Serves.{Serves}
+use Rattle.sw_top.specs.declared.command.Names.{Names}
+use Rattle.sw_top.specs.Rewriting.{map_text, Finishes, stored_out, stored_both}
 use Rattle.sw_top.specs.Headline.{Rewrote}
 
 -- the laws of what stands in the files after one was stored
@@ -28,21 +26,19 @@ module _ (laws : FileLaws) (a : Told) (names : Names) (out : List ℕ) where
   unfolding called with_file
   keeps q p r = laws.other_files (called (stored_out names out a)) names.map map_text q r ∙ laws.other_files (called (called a)) names.to out q p
 
-pub rewrote : FileLaws → (words : List (List ℕ)) (a b : Told) → Serves words Done a b → Rewrote words a b
-rewrote laws words a b s =
-    let f : Finishes s.names a s.before_line = s.performs in
+-- a rewriting that is done, with its calls and without a line
+pub rewrote : FileLaws → (names : Names) (a m b : Told) → names.to ≢ names.map → Finishes names a m → b ≡ m → Rewrote names a b
+rewrote laws names a m b apart f last =
     let l = f.is_loaded in
     let w = l.written in
-    let at : b ≡ stored_both s.names f.out a = s.reports ∙ f.after in
+    let at : b ≡ stored_both names f.out a = last ∙ f.after in
     record {
-      names = s.names;
-      form = s.form;
       file = l.file;
       out = f.out;
       had = l.is_input.whole;
-      has = ap (λ t. get t.files s.names.to) at ∙ has_out laws a s.names f.out s.form.apart;
-      map = ap (λ t. get t.files s.names.map) at ∙ has_map laws a s.names f.out;
-      others = λ q p r. ap (λ t. get t.files q) at ∙ keeps laws a s.names f.out q p r;
+      has = ap (λ t. get t.files names.to) at ∙ has_out laws a names f.out apart;
+      map = ap (λ t. get t.files names.map) at ∙ has_map laws a names f.out;
+      others = λ q p r. ap (λ t. get t.files q) at ∙ keeps laws a names f.out q p r;
       old = _;
       new = _;
       read = w.read;

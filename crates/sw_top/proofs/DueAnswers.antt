@@ -11,13 +11,13 @@ use Rattle.elf_image.specs.Plain.{PlainIsAccepted}
 use Rattle.rewrite_core.specs.Met.{IsRewritable}
 use Rattle.rewrite_core.specs.Rewrites.{IsWritten, IsRefused, by_image, not_yet}
 use Rattle.sw_host.specs.Told.{Told}
-use Rattle.sw_host.specs.Calls.{called, fails, loaded}
+use Rattle.sw_host.specs.Calls.{called, fails, loaded, with_file}
+use Rattle.sw_host.specs.Laws.{FailsAlike}
+use Rattle.sw_top.specs.declared.command.Names.{Names}
 use Rattle.sw_top.specs.declared.end.End.{End}
 use Rattle.sw_top.specs.declared.end.End.TheVariants.{Done, Usage, TooLong, Refused, Host, Memory}
-use Rattle.sw_top.specs.Words.{Names, IsRewrite}
-use Rattle.sw_top.specs.Performs.{input, limit, greatest_size, IsInput, IsOverlong, IsLoaded, Fails, load_fails, out_fails, map_fails}
-use Rattle.sw_top.specs.Serves.{Serves}
-use Rattle.sw_top.specs.Decides.{IsGiven, IsOrMemory, Decides}
+use Rattle.sw_top.specs.Rewriting.{input, limit, greatest_size, stored_out, IsInput, IsOverlong, IsLoaded, Fails, load_fails, out_fails, map_fails, PerformsRewrite}
+use Rattle.sw_top.specs.RewriteOutcome.{IsGiven, IsOrMemory, BothStore, OneStoreFails, AnswersRewrite}
 
 no_refusal : (file : List ℕ) (o : Option Refusal) (image : Image) → image_if file o ≡ Ok image → o ≡ None
 no_refusal file None image e = refl
@@ -45,16 +45,6 @@ one_refusal file r q (by_image e) (by_image f) = cc
 one_refusal file r q (by_image e) (not_yet is f unfit) = cc
 one_refusal file r q (not_yet is e unfit) (by_image f) = cc
 one_refusal file r q (not_yet is e unfit) (not_yet was f misfit) = cc
-
--- words name their files
-same_names : (words : List (List ℕ)) (n m : Names) → IsRewrite words n → IsRewrite words m → n ≡ m
-same_names words n m p q =
-    let there = sym p.words_are in
-    let is = q.words_are in
-    let from : n.from ≡ m.from = cc in
-    let to : n.to ≡ m.to = cc in
-    let map : n.map ≡ m.map = cc in
-    λ i. record { from = from i; to = to i; map = map i }
 
 -- what a load gives is one of three
 module _ (names : Names) (a : Told) where
@@ -91,7 +81,7 @@ given_overlong : (names : Names) (a : Told) → (o : IsOverlong names a) → IsG
 given_overlong names a o = record { loads = loads names a o.front o.gave; whole = o.whole }
 
 -- what the load of a file that is given gives
-front_of : (names : Names) (a : Told) (file : List ℕ) → IsGiven names a file → input names a ≡ Some (take limit file)
+pub front_of : (names : Names) (a : Told) (file : List ℕ) → IsGiven names a file → input names a ≡ Some (take limit file)
 unfolding loaded called
 front_of names a file g = rw (g.loads, g.whole) refl
 
@@ -104,47 +94,53 @@ overlong_of names a file g h =
     let size : length (take limit file) ≡ min limit (length file) = length-take limit file in
     record { front = take limit file; gave = front_of names a file g; full = omega (arith, size, h); file = file; whole = g.whole; over = h }
 
--- what a call found, by its answer
-data Outcome (names : Names) (a : Told) (end : End) : Type 0 where
-  is_done : end ≡ Done → (out : List ℕ) → IsLoaded names a out → Outcome names a end
-  is_long : end ≡ TooLong → IsOverlong names a → Outcome names a end
-  is_refused : (file : List ℕ) (r : Refusal) → end ≡ Refused r → IsInput names a file → IsRefused file r → Outcome names a end
-  is_unloaded : end ≡ Host → input names a ≡ None → Outcome names a end
-  is_unstored : end ≡ Host → (out : List ℕ) → IsLoaded names a out → Outcome names a end
-  is_wanting : end ≡ Memory → Outcome names a end
+-- the store of MAP comes after that of OUT, and its number says whether it is to fail
+third : FailsAlike → (names : Names) (out : List ℕ) (a : Told) → fails (called (stored_out names out a)) ≡ fails (called (called (called a)))
+unfolding with_file
+third alike names out a = alike (called (called a)) (stored_out names out a) refl refl
 
-of_fault : (names : Names) (a b : Told) → Fails names a b → Outcome names a Host
-of_fault names a b (load_fails e after) = is_unloaded refl e
-of_fault names a b (out_fails s e) = is_unstored refl s.out s.is_loaded
-of_fault names a b (map_fails s e) = is_unstored refl s.out s.is_loaded
+-- what a rewriting found, by its answer
+data Found (names : Names) (a : Told) (end : End) : Type 0 where
+  is_done : end ≡ Done → (out : List ℕ) → IsLoaded names a out → BothStore a → Found names a end
+  is_long : end ≡ TooLong → IsOverlong names a → Found names a end
+  is_refused : (file : List ℕ) (r : Refusal) → end ≡ Refused r → IsInput names a file → IsRefused file r → Found names a end
+  is_unloaded : end ≡ Host → input names a ≡ None → Found names a end
+  is_unstored : end ≡ Host → (out : List ℕ) → IsLoaded names a out → OneStoreFails a → Found names a end
+  is_wanting : end ≡ Memory → Found names a end
 
-outcome : (words : List (List ℕ)) (end : End) (a b : Told) (names : Names) → IsRewrite words names → Serves words end a b → Outcome names a end
-outcome words Done a b names form s =
-    subst (λ n. Outcome n a Done) (same_names words s.names names s.form form) (is_done refl s.performs.out s.performs.is_loaded)
-outcome words Usage a b names form s = absurd (s.form (names, form))
-outcome words TooLong a b names form s =
-    subst (λ n. Outcome n a TooLong) (same_names words s.names names s.form form) (is_long refl s.performs.overlong)
-outcome words (Refused r) a b names form s =
-    subst (λ n. Outcome n a (Refused r)) (same_names words s.names names s.form form) (is_refused s.performs.file r refl s.performs.is_input s.performs.refused)
-outcome words Host a b names form s =
-    subst (λ n. Outcome n a Host) (same_names words s.names names s.form form) (of_fault s.names a s.before_line s.performs)
-outcome words Memory a b names form s = is_wanting refl
+of_fault : FailsAlike → (names : Names) (a b : Told) → Fails names a b → Found names a Host
+of_fault alike names a b (load_fails e after) = is_unloaded refl e
+of_fault alike names a b (out_fails s e) = is_unstored refl s.out s.is_loaded (inl e)
+of_fault alike names a b (map_fails s e) = is_unstored refl s.out s.is_loaded (inr (sym (third alike names s.out a) ∙ e))
+
+found : FailsAlike → (names : Names) (end : End) (a b : Told) → PerformsRewrite names end a b → Found names a end
+found alike names Done a b f =
+    is_done refl f.out f.is_loaded (record { out = f.first_store; map = sym (third alike names f.out a) ∙ f.second_store })
+found alike names Usage a b p = absurd p
+found alike names TooLong a b p = is_long refl p.overlong
+found alike names (Refused r) a b p = is_refused p.file r refl p.is_input p.refused
+found alike names Host a b p = of_fault alike names a b p
+found alike names Memory a b p = is_wanting refl
+
+not_each : (a : Told) → BothStore a → OneStoreFails a → ⊥
+not_each a both (inl e) = let z = both.out in cc
+not_each a both (inr e) = let z = both.map in cc
 
 module _ (names : Names) (a : Told) (end : End) where
-  no_file : ((file : List ℕ) → IsGiven names a file → ⊥) → Outcome names a end → IsOrMemory Host end
-  no_file none (is_done is out l) = absurd (none l.file (given_input names a l.file l.is_input))
+  no_file : ((file : List ℕ) → IsGiven names a file → ⊥) → Found names a end → IsOrMemory Host end
+  no_file none (is_done is out l both) = absurd (none l.file (given_input names a l.file l.is_input))
   no_file none (is_long is o) = absurd (none o.file (given_overlong names a o))
   no_file none (is_refused file r is p h) = absurd (none file (given_input names a file p))
   no_file none (is_unloaded is e) = inl is
-  no_file none (is_unstored is out l) = inl is
+  no_file none (is_unstored is out l one) = inl is
   no_file none (is_wanting is) = inr is
 
-  too_long : IsOverlong names a → Outcome names a end → IsOrMemory TooLong end
-  too_long o (is_done is out l) = absurd (not_both names a l.file l.is_input o)
+  too_long : IsOverlong names a → Found names a end → IsOrMemory TooLong end
+  too_long o (is_done is out l both) = absurd (not_both names a l.file l.is_input o)
   too_long o (is_long is p) = inl is
   too_long o (is_refused file r is p h) = absurd (not_both names a file p o)
   too_long o (is_unloaded is none) = absurd (given_front names a o none)
-  too_long o (is_unstored is out l) = absurd (not_both names a l.file l.is_input o)
+  too_long o (is_unstored is out l one) = absurd (not_both names a l.file l.is_input o)
   too_long o (is_wanting is) = inr is
 
   module _ (file : List ℕ) (p : IsInput names a file) where
@@ -154,30 +150,43 @@ module _ (names : Names) (a : Told) (end : End) where
     refused_here : (other : List ℕ) (q : Refusal) → IsInput names a other → IsRefused other q → IsRefused file q
     refused_here other q i h = subst (λ f. IsRefused f q) (one_input names a file other p i) h
 
-    refused : (r : Refusal) → IsRefused file r → Outcome names a end → IsOrMemory (Refused r) end
-    refused r h (is_done is out l) = absurd (written_is_not_refused file out r (written_here out l) h)
+    refused : (r : Refusal) → IsRefused file r → Found names a end → IsOrMemory (Refused r) end
+    refused r h (is_done is out l both) = absurd (written_is_not_refused file out r (written_here out l) h)
     refused r h (is_long is o) = absurd (not_both names a file p o)
     refused r h (is_refused other q is i g) = inl (is ∙ ap Refused (one_refusal file r q h (refused_here other q i g)))
     refused r h (is_unloaded is none) = absurd (given names a file p none)
-    refused r h (is_unstored is out l) = absurd (written_is_not_refused file out r (written_here out l) h)
+    refused r h (is_unstored is out l one) = absurd (written_is_not_refused file out r (written_here out l) h)
     refused r h (is_wanting is) = inr is
 
-    done : PlainIsAccepted → IsRewritable file → (end ≡ Host → ⊥) → Outcome names a end → IsOrMemory Done end
-    done law t never (is_done is out l) = inl is
+    not_refused_here : PlainIsAccepted → IsRewritable file → (other : List ℕ) (q : Refusal) → IsInput names a other → IsRefused other q → ⊥
+    not_refused_here law t other q i g = not_refused file q (rewritable_is_accepted law file t) t (refused_here other q i g)
+
+    done : PlainIsAccepted → IsRewritable file → (end ≡ Host → OneStoreFails a → ⊥) → Found names a end → IsOrMemory Done end
+    done law t never (is_done is out l both) = inl is
     done law t never (is_long is o) = absurd (not_both names a file p o)
-    done law t never (is_refused other q is i g) = absurd (not_refused file q (rewritable_is_accepted law file t) t (refused_here other q i g))
-    done law t never (is_unloaded is none) = absurd (never is)
-    done law t never (is_unstored is out l) = absurd (never is)
+    done law t never (is_refused other q is i g) = absurd (not_refused_here law t other q i g)
+    done law t never (is_unloaded is none) = absurd (given names a file p none)
+    done law t never (is_unstored is out l one) = absurd (never is one)
     done law t never (is_wanting is) = inr is
 
-pub decides : PlainIsAccepted → (words : List (List ℕ)) (end : End) (rose : Type 0) (a b : Told) → (end ≡ Host → rose) → Serves words end a b → Decides words end rose a b
-decides law words end rose a b cause s = record {
-  no_file = λ names form none. no_file names a end none (outcome words end a b names form s);
-  file = λ names form file g.
-      let found = outcome words end a b names form s in
-      record {
-        too_long = λ over. too_long names a end (overlong_of names a file g over) found;
-        refused = λ fits r h. refused names a end file (input_of names a file g fits) r h found;
-        done = λ fits t still. done names a end file (input_of names a file g fits) law t (λ e. still (cause e)) found;
+    host : PlainIsAccepted → IsRewritable file → OneStoreFails a → Found names a end → IsOrMemory Host end
+    host law t fault (is_done is out l both) = absurd (not_each a both fault)
+    host law t fault (is_long is o) = absurd (not_both names a file p o)
+    host law t fault (is_refused other q is i g) = absurd (not_refused_here law t other q i g)
+    host law t fault (is_unloaded is none) = inl is
+    host law t fault (is_unstored is out l one) = inl is
+    host law t fault (is_wanting is) = inr is
+
+pub answers : PlainIsAccepted → FailsAlike → (names : Names) (end : End) (rose : Type 0) (a b : Told) → (end ≡ Host → rose) → PerformsRewrite names end a b → AnswersRewrite names end rose a
+answers law alike names end rose a b cause s =
+    let f = found alike names end a b s in
+    record {
+      no_file = λ none. no_file names a end none f;
+      file = λ file g. record {
+        too_long = λ over. too_long names a end (overlong_of names a file g over) f;
+        refused = λ fits r h. refused names a end file (input_of names a file g fits) r h f;
+        done = λ fits t both. done names a end file (input_of names a file g fits) law t (λ e one. not_each a both one) f;
+        no_fault = λ fits t still. done names a end file (input_of names a file g fits) law t (λ e one. still (cause e)) f;
+        host = λ fits t one. host names a end file (input_of names a file g fits) law t one f;
       };
-}
+    }

@@ -1,9 +1,10 @@
 // The calls of the host for a rewriting.
 ghost use Rattle.std.specs.Prelude.{◌≡◌};
 ghost use Rattle.sw_host.specs.Told.{Tells, Rose};
-ghost use Rattle.sw_top.specs.Performs.{Performs};
+ghost use Rattle.sw_top.specs.Rewriting.{PerformsRewrite};
 
 use crate::End;
+use crate::command::Names;
 use rewrite_core::{RewriteError, rewrite};
 use std::alloc::Global;
 use sw_host::{Host, HostFault};
@@ -18,12 +19,12 @@ const LIMIT: usize = 16_777_217;
 const MAP_TEXT: &str = "secondwrite-map 1\n";
 
 // Loads IN, and stores the new file as OUT and the map as MAP.
-pub fn perform<H: Host>(alloc: Global, from: &str, to: &str, map: &str, host: &mut H) -> End
-    ensures performs { Tells (H.told host.old) (H.told host.new) (Performs (record { from = from.now; to = to.now; map = map.now }) result) }
+pub fn perform_rewrite<H: Host>(alloc: Global, names: &Names, host: &mut H) -> End
+    ensures performs { Tells (H.told host.old) (H.told host.new) (PerformsRewrite names.now result) }
     ensures cause { result ≡ End.Host → Rose (H.faults host.old) (H.faults host.new) }
     ensures form { result ≡ End.Usage → ⊥ }
 {
-    let bytes = match host.load(alloc, from, LIMIT) {
+    let bytes = match host.load(alloc, names.from.as_str(), LIMIT) {
         Ok(bytes) => bytes,
         Err(HostFault::Failed) => return End::Host,
         Err(HostFault::Memory) => return End::Memory,
@@ -36,12 +37,12 @@ pub fn perform<H: Host>(alloc: Global, from: &str, to: &str, map: &str, host: &m
         Err(RewriteError::Refused(refusal)) => return End::Refused(refusal),
         Err(RewriteError::Memory) => return End::Memory,
     };
-    match host.store(to, rewritten.file.as_slice()) {
+    match host.store(names.to.as_str(), rewritten.file.as_slice()) {
         Ok(()) => {}
         Err(HostFault::Failed) => return End::Host,
         Err(HostFault::Memory) => return End::Memory,
     }
-    match host.store(map, MAP_TEXT.as_bytes()) {
+    match host.store(names.map.as_str(), MAP_TEXT.as_bytes()) {
         Ok(()) => End::Done,
         Err(HostFault::Failed) => End::Host,
         Err(HostFault::Memory) => End::Memory,
