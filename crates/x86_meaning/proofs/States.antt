@@ -57,8 +57,8 @@ module _ (laws : MemoryLaws) where
 
   after_settled : (m : Memory) (ls : List Label) (s : State) → Kept m s.memory → Reaches (IsAfter m) (settled ls s)
   after_settled m ls s k = settled_holds (Reaches (IsAfter m)) ls s tt (λ esp h. (
-      record { esp = esp; is_esp = h; below = λ a p l e x. forgotten_below esp s.memory a p l e x },
-      λ a. laws.forget_keeps_kinds esp s.memory a ∙ k a,
+    record { esp = esp; is_esp = h; below = λ a p l e x. forgotten_below esp s.memory a p l e x },
+    λ a. laws.forget_keeps_kinds esp s.memory a ∙ k a,
   ))
 
   after_called : (m : Memory) (x : Called) (s : State) → Kept m s.memory → Reaches (IsAfter m) (after_call x s)

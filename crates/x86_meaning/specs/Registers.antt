@@ -5,8 +5,8 @@ use Rattle.x86_values.specs.declared.word.Word.{Word}
 use Rattle.x86_values.specs.declared.word.Flags.{Flags}
 use Rattle.x86_values.specs.Words.{word_list, padded}
 use Rattle.x86_types.specs.declared.operand.Reg.{Reg}
-use Rattle.x86_types.specs.declared.operand.Reg.TheVariants.{Eax, Ecx, Edx, Ebx, Esp, Ebp, Esi, Edi}
 use Rattle.x86_types.specs.Numbers.{number_of_reg}
+use Rattle.x86_types.specs.Registers.{byte_register}
 
 -- a word at each place: the machine has its eight registers by number, and code over names has more places
 abbrev pub Registers : Type 0
@@ -30,17 +30,10 @@ pub record Naming : Type 0 where
   pub whole : Reg → ℕ
   pub byte : Reg → ℕ × ℕ
 
--- AL, CL, DL, BL, AH, CH, DH, BH (Intel SDM volume 2, table 3-1)
-abbrev pub byte_register : Reg → ℕ × ℕ
-byte_register Eax = (0, 0)
-byte_register Ecx = (1, 0)
-byte_register Edx = (2, 0)
-byte_register Ebx = (3, 0)
-byte_register Esp = (0, 1)
-byte_register Ebp = (1, 1)
-byte_register Esi = (2, 1)
-byte_register Edi = (3, 1)
+-- the place and the byte of AL, CL, DL, BL, AH, CH, DH and BH
+abbrev pub byte_place : Reg → ℕ × ℕ
+byte_place r = let b = byte_register r in (number_of_reg b.reg, b.byte)
 
 -- the machine's own: each field names its register
 abbrev pub machine_naming : Naming
-machine_naming = record { whole = number_of_reg; byte = byte_register }
+machine_naming = record { whole = number_of_reg; byte = byte_place }
