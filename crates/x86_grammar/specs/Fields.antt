@@ -14,7 +14,7 @@ use Rattle.x86_types.specs.declared.operand.Src.TheVariants as src
 use Rattle.x86_types.specs.declared.instr.Instr.{Instr}
 use Rattle.x86_types.specs.declared.instr.Instr.TheVariants as instr
 use Rattle.x86_types.specs.Numbers.{size_of}
-use Rattle.x86_grammar.specs.Parts.{full_of}
+use Rattle.x86_grammar.specs.Parts.{w_bit}
 use Rattle.x86_grammar.specs.Spells.{Spells}
 
 -- a number of that width
@@ -76,7 +76,7 @@ abbrev pub fields_fit : Instr → Bool
 fields_fit (instr.Alu op w to from) = moves_fit w to from
 fields_fit (instr.Test w left right) = test_fits w left right
 fields_fit (instr.Mov w to from) = moves_fit w to from
-fields_fit (instr.Lea w to a) = full_of w && address_fits a
+fields_fit (instr.Lea w to a) = w_bit w && address_fits a
 fields_fit (instr.Inc w to) = rm_fits to
 fields_fit (instr.Dec w to) = rm_fits to
 fields_fit (instr.Not w to) = rm_fits to
@@ -85,8 +85,8 @@ fields_fit (instr.Mul w from) = rm_fits from
 fields_fit (instr.ImulWide w from) = rm_fits from
 fields_fit (instr.Div w from) = rm_fits from
 fields_fit (instr.Idiv w from) = rm_fits from
-fields_fit (instr.Imul w to from) = full_of w && rm_fits from
-fields_fit (instr.ImulBy w to from by) = full_of w && (rm_fits from && number_fits w by)
+fields_fit (instr.Imul w to from) = w_bit w && rm_fits from
+fields_fit (instr.ImulBy w to from by) = w_bit w && (rm_fits from && number_fits w by)
 fields_fit (instr.Shift op w to n) = rm_fits to && count_fits n
 fields_fit (instr.Shld to from n) = rm_fits to && count_fits n
 fields_fit (instr.Shrd to from n) = rm_fits to && count_fits n
@@ -95,12 +95,12 @@ fields_fit (instr.Pop to) = rm_fits to
 fields_fit (instr.Xchg w left right) = rm_fits left
 fields_fit (instr.Movzx wide w to from) = widens wide w && rm_fits from
 fields_fit (instr.Movsx wide w to from) = widens wide w && rm_fits from
-fields_fit (instr.Cmov c w to from) = full_of w && rm_fits from
+fields_fit (instr.Cmov c w to from) = w_bit w && rm_fits from
 fields_fit (instr.Setcc c to) = rm_fits to
-fields_fit (instr.Extend w) = full_of w
-fields_fit (instr.Spread w) = full_of w
-fields_fit (instr.Bsf w to from) = full_of w && rm_fits from
-fields_fit (instr.Bsr w to from) = full_of w && rm_fits from
+fields_fit (instr.Extend w) = w_bit w
+fields_fit (instr.Spread w) = w_bit w
+fields_fit (instr.Bsf w to from) = w_bit w && rm_fits from
+fields_fit (instr.Bsr w to from) = w_bit w && rm_fits from
 fields_fit (instr.Bswap to) = true
 fields_fit (instr.Movs w repeat) = true
 fields_fit (instr.Stos w repeat) = true

@@ -17,7 +17,7 @@ use Rattle.x86_grammar.specs.Attributes.{imm_size}
 use Rattle.x86_grammar.specs.Meaning.{build}
 use Rattle.x86_grammar.specs.Operand.{has_sib, disp_size, mod_size, rm_of, from_le}
 use Rattle.x86_grammar.specs.Rows.{has_operand}
-use Rattle.x86_grammar.specs.Spells.{Spells, prefixes_fit, half_in, is_prefix, more, no_counts}
+use Rattle.x86_grammar.specs.Spells.{Spells, prefixes_fit, operand_size_in, is_prefix, more, no_counts}
 use Rattle.x86_grammar.specs.Table.{entry_of, row_in}
 
 -- an instruction with the bytes left behind it, if the parts mean one
@@ -28,8 +28,8 @@ found (Some i) left = Found i left
 -- the numbers at the end: the displacement, and the row's own
 unfoldable pub numbers : Row → Counts → ℕ → ℕ → ℕ → List ℕ → Seen
 numbers r c m s size bytes =
-    if nat_lt (length bytes) (size + imm_size r (half_in r c)) then Needs (size + imm_size r (half_in r c) - length bytes)
-    else found (build r (half_in r c) (c.repeats == 1) (m / 8 % 8) (rm_of m s (from_le size bytes)) (from_le (imm_size r (half_in r c)) (drop size bytes))) (length bytes - (size + imm_size r (half_in r c)))
+    if nat_lt (length bytes) (size + imm_size r (operand_size_in r c)) then Needs (size + imm_size r (operand_size_in r c) - length bytes)
+    else found (build r (operand_size_in r c) (c.repeats == 1) (m / 8 % 8) (rm_of m s (from_le size bytes)) (from_le (imm_size r (operand_size_in r c)) (drop size bytes))) (length bytes - (size + imm_size r (operand_size_in r c)))
 
 -- the fewest bytes of displacement behind a SIB that isn't known
 abbrev pub least_disp : ℕ → ℕ
@@ -37,7 +37,7 @@ least_disp m = mod_size (m / 64) false
 
 -- behind ModRM, where SIB stands next
 unfoldable pub sib_at : Row → Counts → ℕ → List ℕ → Seen
-sib_at r c m [] = Needs (1 + (least_disp m + imm_size r (half_in r c)))
+sib_at r c m [] = Needs (1 + (least_disp m + imm_size r (operand_size_in r c)))
 sib_at r c m (s ∷ bytes) = numbers r c m s (disp_size m s) bytes
 
 -- behind ModRM, by the row
@@ -53,7 +53,7 @@ of_row (Some r) c m bytes = after_m r c m bytes
 
 -- an easy row of the entry stands for all of them where ModRM isn't there yet
 unfoldable pub m_at : Entry → Row → Counts → List ℕ → Seen
-m_at e easy c [] = if prefixes_fit easy c then Needs (1 + imm_size easy (half_in easy c)) else Never
+m_at e easy c [] = if prefixes_fit easy c then Needs (1 + imm_size easy (operand_size_in easy c)) else Never
 m_at e easy c (m ∷ bytes) = of_row (row_in e (m / 8 % 8)) c m bytes
 
 -- behind the opcode of a row without ModRM; 0xC0 stands for an operand that nothing names
@@ -63,13 +63,13 @@ plain_at r c bytes = if prefixes_fit r c then numbers r c 0xC0 0 0 bytes else Ne
 -- the member of a group that takes most prefixes and fewest bytes
 abbrev pub easiest : Group → Counts → Row
 easiest group.Pops c = row.Pop
-easiest (group.Moves full) c = row.MovImm full
-easiest (group.Units full) c = row.Not full
+easiest (group.Moves w) c = row.MovImm w
+easiest (group.Units w) c = row.Not w
 easiest (group.Steps false) c = row.Inc false
 easiest (group.Steps true) c = if c.hints == 0 then row.Inc true else row.CallTo
-easiest (group.ShiftsImm full) c = row.ShiftImm Rol full
-easiest (group.ShiftsOne full) c = row.ShiftOne Rol full
-easiest (group.ShiftsCl full) c = row.ShiftCl Rol full
+easiest (group.ShiftsImm w) c = row.ShiftImm Rol w
+easiest (group.ShiftsOne w) c = row.ShiftOne Rol w
+easiest (group.ShiftsCl w) c = row.ShiftCl Rol w
 easiest (group.Sets cond) c = row.Setcc cond
 easiest group.Nops c = row.NopLong
 
@@ -93,7 +93,7 @@ least_of h s x p = None
 
 -- by the counts of prefixes
 abbrev pub least_opcode : Counts → Option ℕ
-least_opcode c = least_of c.halves c.segments c.hints c.repeats
+least_opcode c = least_of c.operand_sizes c.segments c.hints c.repeats
 
 -- the same behind 0F: BSWAP, the long NOP and ENDBR32
 abbrev pub least_escaped_of : ℕ → ℕ → ℕ → ℕ → Option ℕ
@@ -105,7 +105,7 @@ least_escaped_of h s x p = None
 
 -- by the counts of prefixes
 abbrev pub least_escaped : Counts → Option ℕ
-least_escaped c = least_escaped_of c.halves c.segments c.hints c.repeats
+least_escaped c = least_escaped_of c.operand_sizes c.segments c.hints c.repeats
 
 -- a number of bytes that are missing at least
 abbrev pub needs : Option ℕ → Seen
@@ -145,7 +145,7 @@ pub record Gave (bytes : List ℕ) (i : Instr) (left : ℕ) : Type 0 where
   pub spells : length text ≤ 15 → Spells text i
 
 -- with so many bytes more they spell something, unless that is too long
-pub record Wants (bytes : List ℕ) (k : ℕ) : Type 0 where
+pub record SpelledWithMore (bytes : List ℕ) (k : ℕ) : Type 0 where
   pub more : List ℕ
   pub instr : Instr
   pub len : length more ≡ k
@@ -153,7 +153,7 @@ pub record Wants (bytes : List ℕ) (k : ℕ) : Type 0 where
   pub spells : length (bytes ++ more) ≤ 15 → Spells (bytes ++ more) instr
 
 -- so many bytes are asked for, and no more than are missing
-pub record Cut (x : Seen) (missing : ℕ) : Type 0 where
+pub record AsksWithin (x : Seen) (missing : ℕ) : Type 0 where
   pub wanted : ℕ
   pub is : x ≡ Needs wanted
   pub least : wanted ≤ missing
@@ -162,6 +162,6 @@ pub record Cut (x : Seen) (missing : ℕ) : Type 0 where
 -- missing; what is found is spelled; and what is asked for makes a spelling.
 pub record ReadsRight : Type 0 where
   pub whole : (text rest : List ℕ) (i : Instr) → Spells text i → read (text ++ rest) ≡ Found i (length rest)
-  pub cut : (front back : List ℕ) (i : Instr) → Spells (front ++ back) i → 0 < length back → Cut (read front) (length back)
+  pub cut : (front back : List ℕ) (i : Instr) → Spells (front ++ back) i → 0 < length back → AsksWithin (read front) (length back)
   pub gave : (bytes : List ℕ) (i : Instr) (left : ℕ) → AreBytes bytes → read bytes ≡ Found i left → Gave bytes i left
-  pub wants : (bytes : List ℕ) (k : ℕ) → AreBytes bytes → read bytes ≡ Needs k → Wants bytes k
+  pub wants : (bytes : List ℕ) (k : ℕ) → AreBytes bytes → read bytes ≡ Needs k → SpelledWithMore bytes k

@@ -146,18 +146,18 @@ attributes_of row.MovsxWord = modrm 0x1BF Any no_prefix NoImm
 attributes_of (row.BswapReg r) = alone (0x1C8 + number_of_reg r) Any no_prefix NoImm
 
 -- the row's opcode
-abbrev pub key_of : Row → ℕ
-key_of r = (attributes_of r).opcode
+abbrev pub opcode_of : Row → ℕ
+opcode_of r = (attributes_of r).opcode
 
 -- the values of ModRM's reg field
-abbrev pub middle_of : Row → RegField
-middle_of r = (attributes_of r).reg_field
+abbrev pub reg_field_of : Row → RegField
+reg_field_of r = (attributes_of r).reg_field
 
 -- whether a reg field is one of them
-abbrev pub fits_middle : RegField → ℕ → Bool
-fits_middle Any n = true
-fits_middle (Is m) n = m == n
-fits_middle Nowhere n = false
+abbrev pub fits_reg_field : RegField → ℕ → Bool
+fits_reg_field Any n = true
+fits_reg_field (Is m) n = m == n
+fits_reg_field Nowhere n = false
 
 -- whether ModRM stands behind the opcode
 abbrev pub has_operand : Row → Bool

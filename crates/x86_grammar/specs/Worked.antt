@@ -1,3 +1,4 @@
+-- In part written by tools/worked.py.
 -- Worked spellings, two or more for each line of the list of instructions, and bytes that spell nothing.
 use Rattle.std.specs.Prelude.{ℕ, List, [], ◌∷◌, Option, Some, None, true, false}
 use Rattle.std.specs.List.{AllByRecursion}

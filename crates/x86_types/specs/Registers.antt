@@ -36,7 +36,7 @@ ByteRegisterIsNumber = (r : Reg) → byte_register r ≡ byte_in (reg_of (number
 
 -- ---- other registers in the fields of an instruction
 
--- what a register field is: the index of an address, another whole register or its lower half, or one byte
+-- what a register field is: the index of an address, another whole register or its lower 16 bits, or one byte
 pub data RegisterField : Type 0 where
   Index : RegisterField
   Whole : RegisterField
