@@ -57,7 +57,7 @@ module _ (laws : Laws) (fits : (i : Instr) → (fields_fit i ≡ true) ↔ HasSp
   unfolding best_at
   short =
       let f = has.spells.spelling.form in
-      let p = picked (forms_at false i) f (subst (λ (fs : List Form). In f fs) (sym (all_at i)) has.spells.right.among) in
+      let p = picked (forms_at false i) f (subst (λ (fs : List Form). In f fs) (sym (all_at i)) has.spells.right.among) (laws.forms_right.suits i f has.spells.right.among) in
       let among = subst (λ (fs : List Form). In p.form fs) (all_at i) p.among in
       subst (λ (t : List ℕ). length t ≤ 11) (sym p.is) (suited_short p.form (laws.forms_right.suits i p.form among))
 
@@ -65,7 +65,7 @@ module _ (laws : Laws) (fits : (i : Instr) → (fields_fit i ≡ true) ↔ HasSp
   unfolding best_at
   short_wide =
       let g = some_wide i has.spells.spelling.form has.spells.right.among in
-      let p = picked (forms_at true i) g.0 g.1 in
+      let p = picked (forms_at true i) g.0 g.1 (laws.forms_right.suits i g.0 (wide_in laws.forms_right i g.0 g.1).among) in
       subst (λ (t : List ℕ). length t ≤ 11) (sym p.is) (suited_short p.form (laws.forms_right.suits i p.form (wide_in laws.forms_right i p.form p.among).among))
 
 best_first : (a b : List ℕ) → (a ≡ b) ⊎ Before a b → length a ≤ length b

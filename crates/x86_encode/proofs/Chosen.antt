@@ -14,7 +14,7 @@ use Rattle.x86_grammar.specs.declared.row.Form.{Form}
 use Rattle.x86_grammar.specs.declared.row.Row.{Row}
 use Rattle.x86_grammar.specs.declared.row.Row.TheVariants as row
 use Rattle.x86_grammar.specs.Fields.{HasSpelling, fields_fit}
-use Rattle.x86_grammar.specs.FormLaws.{FormsAreRight}
+use Rattle.x86_grammar.specs.FormLaws.{FormsAreRight, FormSuits}
 use Rattle.x86_grammar.specs.Forms.{In, forms}
 use Rattle.x86_grammar.specs.Meaning.{build}
 use Rattle.x86_grammar.specs.Parts.{plain, signed}
@@ -25,16 +25,17 @@ use Rattle.x86_encode.specs.BestForm.{form_best}
 use Rattle.x86_encode.specs.Choice.{picks, no_text, forms_at}
 use Rattle.x86_encode.proofs.Ordering.{NotAfter, NotAfter-trans, no_longer, same_or_before, Picked, picks_least, picks_one}
 use Rattle.x86_encode.proofs.BestForms.{form_is_best}
-use Rattle.x86_encode.proofs.Spelled.{form_short, form_spelled, form_is}
+use Rattle.x86_encode.proofs.Short.{suited_short}
+use Rattle.x86_encode.proofs.Spelled.{form_spelled, form_is}
 
 -- one of the forms is picked
-pub picked : (fs : List Form) (g : Form) → In g fs → Picked (picks no_text fs) fs
-picked fs g h =
+pub picked : (fs : List Form) (g : Form) → In g fs → FormSuits g → Picked (picks no_text fs) fs
+picked fs g h suits =
     elim (picks_one no_text fs) [
       | inr p ↦ p
       | inl e ↦
           let l = no_longer _ _ (picks_least no_text g fs h) in
-          let s = form_short g in
+          let s = suited_short g suits in
           let n : length (picks no_text fs) ≡ 16 = ap length e in
           absurd (omega arith)
     ]
@@ -63,7 +64,9 @@ module _ (laws : Laws) (i : Instr) (ok : fields_fit i ≡ true) where
 
   of_all : HasSpelling i → IsBest i (picks no_text (forms i))
   of_all has =
-      let p = picked (forms i) has.spells.spelling.form has.spells.right.among in
+      let f = has.spells.spelling.form in
+      let among = has.spells.right.among in
+      let p = picked (forms i) f among (laws.forms_right.suits i f among) in
       record {
         spells = subst (λ (x : List ℕ). Spells x i) (sym p.is) (best_of p.form p.among);
         first = λ u s. first_of_forms (forms i) u s s.right.among;
@@ -140,7 +143,7 @@ module _ (laws : Laws) (i : Instr) (ok : fields_fit i ≡ true) where
   pub best_wide_is : HasSpelling i → IsBestWide i (picks no_text (forms_at true i))
   best_wide_is has =
       let g = some_wide i has.spells.spelling.form has.spells.right.among in
-      let p = picked (forms_at true i) g.0 g.1 in
+      let p = picked (forms_at true i) g.0 g.1 (laws.forms_right.suits i g.0 (wide_in laws.forms_right i g.0 g.1).among) in
       record {
         spells = subst (λ (x : List ℕ). SpellsWide x i) (sym p.is) (wide_of p.form (wide_in laws.forms_right i p.form p.among));
         first = λ u s. first_of_forms laws i ok (forms_at true i) u s.spells (in_wide i s.spells.spelling.form s.spells.right.among s.wide);
