@@ -20,7 +20,7 @@ use Rattle.x86_grammar.specs.Meaning.{build}
 use Rattle.x86_grammar.specs.Parts.{plain, signed}
 use Rattle.x86_grammar.specs.Spells.{Spells}
 use Rattle.x86_encode.specs.Order.{Before}
-use Rattle.x86_encode.specs.Best.{IsBest, is_short, SpellsWide, IsBestWide}
+use Rattle.x86_encode.specs.Best.{IsBest, is_short, has_short, SpellsWide, IsBestWide}
 use Rattle.x86_encode.specs.BestForm.{form_best}
 use Rattle.x86_encode.specs.Choice.{picks, no_text, forms_at}
 use Rattle.x86_encode.proofs.Ordering.{NotAfter, NotAfter-trans, no_longer, same_or_before, Picked, picks_least, picks_one}
@@ -77,21 +77,16 @@ module _ (laws : Laws) (i : Instr) (ok : fields_fit i ≡ true) where
 
 -- ---- without the short jumps
 
-abbrev is_jump : Instr → Bool
-is_jump (instr.Jmp by) = true
-is_jump (instr.Jcc c by) = true
-is_jump _ = false
-
-short_means : (r : Row) (h p : Bool) (n : ℕ) (m : Rm) (v : ℕ) (i : Instr) → is_short r ≡ true → build r h p n m v ≡ Some i → is_jump i ≡ true
-short_means row.JmpShort h p n m v i e b = let q : instr.Jmp (signed Four v) ≡ i = (cc) in subst (λ (j : Instr). is_jump j ≡ true) q refl
-short_means (row.JccShort c) h p n m v i e b = let q : instr.Jcc c (signed Four v) ≡ i = (cc) in subst (λ (j : Instr). is_jump j ≡ true) q refl
+short_means : (r : Row) (h p : Bool) (n : ℕ) (m : Rm) (v : ℕ) (i : Instr) → is_short r ≡ true → build r h p n m v ≡ Some i → has_short i ≡ true
+short_means row.JmpShort h p n m v i e b = let q : instr.Jmp (signed Four v) ≡ i = (cc) in subst (λ (j : Instr). has_short j ≡ true) q refl
+short_means (row.JccShort c) h p n m v i e b = let q : instr.Jcc c (signed Four v) ≡ i = (cc) in subst (λ (j : Instr). has_short j ≡ true) q refl
 short_means _ h p n m v i e b = absurd (false≢true e)
 
 allowed : (o : Option Rm) → (m : Rm) × (IfSome o (λ x. x ≡ m))
 allowed None = (rm.Reg reg.Eax, tt)
 allowed (Some m) = (m, refl)
 
-not_short : FormsAreRight → (i : Instr) (f : Form) → In f (forms i) → is_jump i ≡ false → is_short f.row ≡ false
+not_short : FormsAreRight → (i : Instr) (f : Form) → In f (forms i) → has_short i ≡ false → is_short f.row ≡ false
 not_short right i f h e =
     let m = allowed f.rm in
     false_from_ne_true (is_short f.row) (λ s. false≢true (sym e ∙ short_means f.row f.half f.rep f.middle m.0 f.imm i s (right.means i f m.0 h m.1)))
