@@ -14,27 +14,28 @@ use Rattle.x86_grammar.specs.declared.row.Form.{Form}
 use Rattle.x86_grammar.specs.declared.row.Row.{Row}
 use Rattle.x86_grammar.specs.declared.row.Row.TheVariants as row
 use Rattle.x86_grammar.specs.Fields.{HasSpelling, fields_fit}
-use Rattle.x86_grammar.specs.FormLaws.{FormsAreRight}
+use Rattle.x86_grammar.specs.FormLaws.{FormsAreRight, FormSuits}
 use Rattle.x86_grammar.specs.Forms.{In, forms}
 use Rattle.x86_grammar.specs.Meaning.{build}
 use Rattle.x86_grammar.specs.Parts.{plain, signed}
 use Rattle.x86_grammar.specs.Spells.{Spells}
 use Rattle.x86_encode.specs.Order.{Before}
-use Rattle.x86_encode.specs.Best.{IsBest, is_short, SpellsWide, IsBestWide}
+use Rattle.x86_encode.specs.Best.{IsBest, is_short, has_short, SpellsWide, IsBestWide}
 use Rattle.x86_encode.specs.BestForm.{form_best}
 use Rattle.x86_encode.specs.Choice.{picks, no_text, forms_at}
 use Rattle.x86_encode.proofs.Ordering.{NotAfter, NotAfter-trans, no_longer, same_or_before, Picked, picks_least, picks_one}
 use Rattle.x86_encode.proofs.BestForms.{form_is_best}
-use Rattle.x86_encode.proofs.Spelled.{form_short, form_spelled, form_is}
+use Rattle.x86_encode.proofs.Short.{suited_short}
+use Rattle.x86_encode.proofs.Spelled.{form_spelled, form_is}
 
 -- one of the forms is picked
-pub picked : (fs : List Form) (g : Form) → In g fs → Picked (picks no_text fs) fs
-picked fs g h =
+pub picked : (fs : List Form) (g : Form) → In g fs → FormSuits g → Picked (picks no_text fs) fs
+picked fs g h suits =
     elim (picks_one no_text fs) [
       | inr p ↦ p
       | inl e ↦
           let l = no_longer _ _ (picks_least no_text g fs h) in
-          let s = form_short g in
+          let s = suited_short g suits in
           let n : length (picks no_text fs) ≡ 16 = ap length e in
           absurd (omega arith)
     ]
@@ -63,7 +64,9 @@ module _ (laws : Laws) (i : Instr) (ok : fields_fit i ≡ true) where
 
   of_all : HasSpelling i → IsBest i (picks no_text (forms i))
   of_all has =
-      let p = picked (forms i) has.spells.spelling.form has.spells.right.among in
+      let f = has.spells.spelling.form in
+      let among = has.spells.right.among in
+      let p = picked (forms i) f among (laws.forms_right.suits i f among) in
       record {
         spells = subst (λ (x : List ℕ). Spells x i) (sym p.is) (best_of p.form p.among);
         first = λ u s. first_of_forms (forms i) u s s.right.among;
@@ -74,21 +77,16 @@ module _ (laws : Laws) (i : Instr) (ok : fields_fit i ≡ true) where
 
 -- ---- without the short jumps
 
-abbrev is_jump : Instr → Bool
-is_jump (instr.Jmp by) = true
-is_jump (instr.Jcc c by) = true
-is_jump _ = false
-
-short_means : (r : Row) (h p : Bool) (n : ℕ) (m : Rm) (v : ℕ) (i : Instr) → is_short r ≡ true → build r h p n m v ≡ Some i → is_jump i ≡ true
-short_means row.JmpShort h p n m v i e b = let q : instr.Jmp (signed Four v) ≡ i = (cc) in subst (λ (j : Instr). is_jump j ≡ true) q refl
-short_means (row.JccShort c) h p n m v i e b = let q : instr.Jcc c (signed Four v) ≡ i = (cc) in subst (λ (j : Instr). is_jump j ≡ true) q refl
+short_means : (r : Row) (h p : Bool) (n : ℕ) (m : Rm) (v : ℕ) (i : Instr) → is_short r ≡ true → build r h p n m v ≡ Some i → has_short i ≡ true
+short_means row.JmpShort h p n m v i e b = let q : instr.Jmp (signed Four v) ≡ i = (cc) in subst (λ (j : Instr). has_short j ≡ true) q refl
+short_means (row.JccShort c) h p n m v i e b = let q : instr.Jcc c (signed Four v) ≡ i = (cc) in subst (λ (j : Instr). has_short j ≡ true) q refl
 short_means _ h p n m v i e b = absurd (false≢true e)
 
 allowed : (o : Option Rm) → (m : Rm) × (IfSome o (λ x. x ≡ m))
 allowed None = (rm.Reg reg.Eax, tt)
 allowed (Some m) = (m, refl)
 
-not_short : FormsAreRight → (i : Instr) (f : Form) → In f (forms i) → is_jump i ≡ false → is_short f.row ≡ false
+not_short : FormsAreRight → (i : Instr) (f : Form) → In f (forms i) → has_short i ≡ false → is_short f.row ≡ false
 not_short right i f h e =
     let m = allowed f.rm in
     false_from_ne_true (is_short f.row) (λ s. false≢true (sym e ∙ short_means f.row f.half f.rep f.middle m.0 f.imm i s (right.means i f m.0 h m.1)))
@@ -140,7 +138,7 @@ module _ (laws : Laws) (i : Instr) (ok : fields_fit i ≡ true) where
   pub best_wide_is : HasSpelling i → IsBestWide i (picks no_text (forms_at true i))
   best_wide_is has =
       let g = some_wide i has.spells.spelling.form has.spells.right.among in
-      let p = picked (forms_at true i) g.0 g.1 in
+      let p = picked (forms_at true i) g.0 g.1 (laws.forms_right.suits i g.0 (wide_in laws.forms_right i g.0 g.1).among) in
       record {
         spells = subst (λ (x : List ℕ). SpellsWide x i) (sym p.is) (wide_of p.form (wide_in laws.forms_right i p.form p.among));
         first = λ u s. first_of_forms laws i ok (forms_at true i) u s.spells (in_wide i s.spells.spelling.form s.spells.right.among s.wide);

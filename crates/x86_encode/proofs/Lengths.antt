@@ -18,7 +18,7 @@ use Rattle.x86_encode.specs.BestForm.{best_part, form_best}
 use Rattle.x86_encode.specs.Choice.{best_at, best, best_wide, no_text, picks}
 use Rattle.x86_encode.specs.Laws.{BestLengths}
 use Rattle.x86_encode.proofs.Ordering.{no_longer, picks_least}
-use Rattle.x86_encode.proofs.Spelled.{part_short}
+use Rattle.x86_encode.proofs.Short.{part_short}
 
 constant : (to : Reg) (value : ℕ) → length (best (instr.Mov Four (rm.Reg to) (src.Imm value))) ≡ 5
 unfolding best_at

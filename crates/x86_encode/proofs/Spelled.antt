@@ -1,111 +1,36 @@
--- The best of a form spells the instruction, in at most fourteen bytes.
-use Rattle.std.proofs.Common.{◌≡◌, ℕ, ◌-◌, ◌%◌, ◌≤◌, Bool, true, false, cond, not, ltb, eqb, ◌||◌, List, [], ◌∷◌, ◌++◌, length, Option, Some, None, refl, sym, ap, lit≤, arith, length-append}
-use Rattle.std.proofs.lemmas.Bool.{cond_both}
+-- The best of a form spells the instruction.
+use Rattle.std.proofs.Common.{◌≡◌, ℕ, Bool, true, false, not, eqb, ◌||◌, List, ◌++◌, Option, refl, sym, ap, arith}
 use Rattle.std.specs.List.{AllByRecursion}
-use Rattle.x86_types.specs.Numbers.{size_of, reg_of, number_of_reg}
-use Rattle.x86_types.specs.declared.width.Width.{Width}
-use Rattle.x86_types.specs.declared.width.Width.TheVariants.{One, Two, Four}
+use Rattle.x86_types.specs.Numbers.{reg_of, number_of_reg}
 use Rattle.x86_types.specs.declared.operand.Reg.{Reg}
 use Rattle.x86_types.specs.declared.operand.Rm.{Rm}
-use Rattle.x86_types.specs.declared.operand.Rm.TheVariants as rm
 use Rattle.x86_types.specs.declared.instr.Instr.{Instr}
 use Rattle.x86_grammar.specs.declared.row.Form.{Form}
 use Rattle.x86_grammar.specs.declared.row.Row.{Row}
-use Rattle.x86_grammar.specs.declared.row.Row.TheVariants as row
 use Rattle.x86_grammar.specs.Rows.{key_of, has_operand}
-use Rattle.x86_grammar.specs.Attributes.{can_half, imm_size, width_of, rep_fits}
+use Rattle.x86_grammar.specs.Attributes.{can_half, imm_size, rep_fits}
 use Rattle.x86_grammar.specs.FormLaws.{FormSuits, FormFits}
 use Rattle.x86_grammar.specs.Forms.{In, forms}
-use Rattle.x86_grammar.specs.Parts.{signed}
-use Rattle.x86_grammar.specs.Operand.{Operand, le, sibs}
+use Rattle.x86_grammar.specs.Operand.{Operand, le}
 use Rattle.x86_grammar.specs.Spells.{is_prefix, counts_of, prefixes_fit, half_in, opcode_bytes, operand_part, bytes_of, Spelling, Spells}
-use Rattle.x86_encode.specs.BestOperand.{best_size, best_sib, class_of, raw, wants_sib}
 use Rattle.x86_encode.specs.BestForm.{best_prefixes, best_operand, best_part, form_best}
-use Rattle.x86_encode.proofs.OperandTest.{length-le}
 use Rattle.x86_encode.proofs.ReadBack.{Shown, operand_shown}
+use Rattle.x86_encode.proofs.Short.{suited_short}
 
 -- ---- the prefixes
 
-pub prefixes_short : (h p : Bool) → length (best_prefixes h p) ≤ 2
-prefixes_short true true = lit≤ tt
-prefixes_short true false = lit≤ tt
-prefixes_short false true = lit≤ tt
-prefixes_short false false = lit≤ tt
+-- the best prefixes are ones that the row knows, and say what the form says
+record PrefixesServe (r : Row) (h p : Bool) : Type 0 where
+  are : AllByRecursion (λ b. is_prefix b ≡ true) (best_prefixes h p)
+  fit : prefixes_fit r (counts_of (best_prefixes h p)) ≡ true
+  half : h ≡ half_in r (counts_of (best_prefixes h p))
+  rep : p ≡ eqb (counts_of (best_prefixes h p)).repeats 1
 
-prefixes_are : (h p : Bool) → AllByRecursion (λ b. is_prefix b ≡ true) (best_prefixes h p)
-prefixes_are true true = (refl, (refl, tt))
-prefixes_are true false = (refl, tt)
-prefixes_are false true = (refl, tt)
-prefixes_are false false = tt
-
-fit_there : (r : Row) (h p : Bool) → (not h || can_half r) ≡ true → rep_fits r p ≡ true → prefixes_fit r (counts_of (best_prefixes h p)) ≡ true
-fit_there r true true a b = rw (a, b) refl
-fit_there r true false a b = rw (a, b) refl
-fit_there r false true a b = rw b refl
-fit_there r false false a b = rw b refl
-
-half_there : (r : Row) (h p : Bool) → (not h || can_half r) ≡ true → h ≡ half_in r (counts_of (best_prefixes h p))
-half_there r true true a = sym a
-half_there r true false a = sym a
-half_there r false true a = refl
-half_there r false false a = refl
-
-rep_there : (h p : Bool) → p ≡ eqb (counts_of (best_prefixes h p)).repeats 1
-rep_there true true = refl
-rep_there true false = refl
-rep_there false true = refl
-rep_there false false = refl
-
--- ---- the lengths
-
-pub size_small : (w : Width) → size_of w ≤ 4
-size_small One = lit≤ tt
-size_small Two = lit≤ tt
-size_small Four = lit≤ tt
-
-pub imm_small : (r : Row) (h : Bool) → imm_size r h ≤ 4
-imm_small (row.AluAcc op f) h = size_small (width_of f h)
-imm_small (row.AluImm f) h = size_small (width_of f h)
-imm_small (row.TestAcc f) h = size_small (width_of f h)
-imm_small (row.TestImm f) h = size_small (width_of f h)
-imm_small (row.MovReg r f) h = size_small (width_of f h)
-imm_small (row.MovImm f) h = size_small (width_of f h)
-imm_small row.ImulWord h = size_small (width_of true h)
-imm_small _ h = lit≤ tt
-
-pub opcode_short : (k : ℕ) → length (opcode_bytes k) ≤ 2
-opcode_short k = cond_both (ltb k 256) (k ∷ []) (15 ∷ (k - 256) ∷ []) (λ x. length x ≤ 2) (λ e. lit≤ tt) (λ e. lit≤ tt)
-
-sibs_short : (b : Bool) (s : ℕ) → length (sibs b s) ≤ 1
-sibs_short true s = lit≤ tt
-sibs_short false s = lit≤ tt
-
-class_size : (b : Option Reg) (d : ℕ) → best_size b (class_of d) ≤ 4
-class_size None d = lit≤ tt
-class_size (Some r) d =
-    cond_both (eqb d 0) 0 (cond (eqb (signed Four (d % 256)) d) 1 2) (λ c. best_size (Some r) c ≤ 4)
-    (λ e. cond_both (eqb (number_of_reg r) 5) 1 0 (λ s. s ≤ 4) (λ f. lit≤ tt) (λ f. lit≤ tt))
-    (λ e. cond_both (eqb (signed Four (d % 256)) d) 1 2 (λ c. best_size (Some r) c ≤ 4) (λ f. lit≤ tt) (λ f. lit≤ tt))
-
-pub part_short : (b : Bool) (o : Option Rm) (n : ℕ) → length (best_part b o n) ≤ 6
-part_short false o n = lit≤ tt
-part_short true None n = lit≤ tt
-part_short true (Some (rm.Reg r)) n = lit≤ tt
-part_short true (Some (rm.Mem a)) n =
-    let s = sibs_short (wants_sib a.base a.index) (best_sib a.base a.index a.scale) in
-    let k = class_size a.base a.disp in
-    let size = best_size a.base (class_of a.disp) in
-    omega (arith, length-append (sibs (wants_sib a.base a.index) (best_sib a.base a.index a.scale)) (le size (raw size a.disp)), length-le size (raw size a.disp))
-
-pub form_short : (f : Form) → length (form_best f) ≤ 14
-form_short f =
-    let part = best_part (has_operand f.row) f.rm f.middle in
-    let tail = le (imm_size f.row f.half) f.imm in
-    let l1 = prefixes_short f.half f.rep in
-    let l2 = opcode_short (key_of f.row) in
-    let l3 = part_short (has_operand f.row) f.rm f.middle in
-    let l4 = imm_small f.row f.half in
-    omega (arith, length-append (best_prefixes f.half f.rep) (opcode_bytes (key_of f.row) ++ (part ++ tail)), length-append (opcode_bytes (key_of f.row)) (part ++ tail), length-append part tail, length-le (imm_size f.row f.half) f.imm)
+prefixes_serve : (r : Row) (h p : Bool) → (not h || can_half r) ≡ true → rep_fits r p ≡ true → PrefixesServe r h p
+prefixes_serve r true true a b = record { are = (refl, (refl, tt)); fit = rw (a, b) refl; half = sym a; rep = refl }
+prefixes_serve r true false a b = record { are = (refl, tt); fit = rw (a, b) refl; half = sym a; rep = refl }
+prefixes_serve r false true a b = record { are = (refl, tt); fit = rw b refl; half = refl; rep = refl }
+prefixes_serve r false false a b = record { are = tt; fit = rw b refl; half = refl; rep = refl }
 
 -- ---- the whole
 
@@ -127,15 +52,16 @@ module _ (again : (r : Reg) → reg_of (number_of_reg r) ≡ r) (i : Instr) (f :
   pub form_spelled : Spells (form_best f) i
   unfolding spelling
   form_spelled =
-      let s = form_short f in
+      let s = suited_short f suits in
+      let front = prefixes_serve f.row f.half f.rep suits.half suits.rep in
       record {
         spelling = spelling;
         right = record {
           among = among;
-          prefixes = prefixes_are f.half f.rep;
-          fit = fit_there f.row f.half f.rep suits.half suits.rep;
-          half = half_there f.row f.half f.rep suits.half;
-          rep = rep_there f.half f.rep;
+          prefixes = front.are;
+          fit = front.fit;
+          half = front.half;
+          rep = front.rep;
           operand = λ e. record { is = shown.is; middle = shown.middle; rm = shown.rm };
           number = fits.number;
         };
