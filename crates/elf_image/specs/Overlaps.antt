@@ -3,7 +3,7 @@ use Rattle.std.specs.Prelude.{ℕ, ◌||◌, Bool, false, ltb, List, [], ◌∷�
 use Rattle.elf_image.specs.declared.header.ProgramHeader.{ProgramHeader}
 use Rattle.elf_image.specs.Pages.{first_page, end_page}
 
--- in a list that follows segments whose last page is the one before `end`, a segment begins before the end of the one in front of it
+-- a segment begins before the page at which the one in front of it ends; for the first segment that page is `end`
 abbrev pub overlaps : ℕ → List ProgramHeader → Bool
 overlaps end [] = false
 overlaps end (h ∷ hs) = ltb (first_page h) end || overlaps (end_page h) hs

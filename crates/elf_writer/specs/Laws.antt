@@ -9,7 +9,7 @@ use Rattle.elf_image.specs.Plain.{room_segment}
 use Rattle.byte_lists.specs.LittleEndian.{zeros}
 use Rattle.elf_image.specs.Rows.{file_header, segment_header}
 use Rattle.elf_writer.specs.Wanted.{CanBeWritten, image_with}
-use Rattle.elf_writer.specs.Written.{data_of, data_start, written}
+use Rattle.elf_writer.specs.Written.{data_of, table_end, data_start, written}
 
 -- the file of an image that can be written is accepted in the wide room, as this image
 abbrev pub WrittenIsAccepted : Type 0
@@ -27,6 +27,15 @@ plain_segments text = record { start = 0x08049000; size = 4096; perm = record { 
 abbrev pub PlainIsWritten : Type 0
 PlainIsWritten = (text : List ℕ) → length text ≡ 4096 → written (plain_segments text) 0x08049000
     ≡ file_header 2 ++ segment_header 0x1000 0x08049000 4096 4096 5 ++ segment_header 0x2000 0x0804A000 0 4096 6 ++ zeros 3980 ++ text
+
+-- the offset at which the program headers end, and that of the first page after them, for a few of them and for the most
+pub record DataStarts : Type 0 where
+  pub table_of_none : table_end 0 ≡ 52
+  pub table_of_two : table_end 2 ≡ 116
+  pub none : data_start 0 ≡ 0x1000
+  pub last_on_one_page : data_start 126 ≡ 0x1000
+  pub first_on_two_pages : data_start 127 ≡ 0x2000
+  pub greatest : data_start 65535 ≡ 0x201000
 
 -- the image of every file of bytes that the wide room accepts can be written
 abbrev pub ReadImagesCanBeWritten : Type 0

@@ -1,12 +1,13 @@
 // What the written file means.
-ghost use Rattle.elf_writer.specs.Laws.{LengthOfWritten, PlainIsWritten, ReadImagesCanBeWritten, WrittenIsAccepted};
+ghost use Rattle.elf_writer.specs.Laws.{DataStarts, LengthOfWritten, PlainIsWritten, ReadImagesCanBeWritten, WrittenIsAccepted};
 
 /// Does nothing: its clauses say that the wide room reads an image again from the file that is written for it, how long
-/// this file is, and what it is for an image of one page of code and one of zeros.
+/// this file is, what it is for an image of one page of code and one of zeros, and where the bytes of segments begin.
 pub fn writer_laws()
     ensures accepted { WrittenIsAccepted }
     ensures size { LengthOfWritten }
     ensures plain { PlainIsWritten }
+    ensures starts { DataStarts }
 {}
 
 /// Does nothing: its clause says that the image of every file that the wide room accepts can be written.
