@@ -9,8 +9,8 @@ use Rattle.x86_types.specs.declared.width.Width.TheVariants.{Four}
 use Rattle.x86_grammar.specs.declared.row.Form.{Form}
 use Rattle.x86_grammar.specs.declared.row.Row.{Row}
 use Rattle.x86_grammar.specs.declared.row.Row.TheVariants as row
-use Rattle.x86_grammar.specs.Rows.{key_of, has_operand}
-use Rattle.x86_grammar.specs.Attributes.{can_half, imm_size, rep_fits, width_of}
+use Rattle.x86_grammar.specs.Rows.{opcode_of, has_operand}
+use Rattle.x86_grammar.specs.Attributes.{has_operand_size, imm_size, rep_fits, width_of}
 use Rattle.x86_grammar.specs.FormLaws.{FormSuits}
 use Rattle.x86_grammar.specs.Operand.{le, sibs}
 use Rattle.x86_grammar.specs.Parts.{signed}
@@ -50,11 +50,11 @@ part_short true (Some (rm.Mem a)) n =
     omega (arith, length-append (sibs (wants_sib a.base a.index) (best_sib a.base a.index a.scale)) (le size (raw size a.disp)), length-le size (raw size a.disp))
 
 -- the most bytes of an operand
-abbrev operand_size : Bool → ℕ
-operand_size true = 6
-operand_size false = 0
+abbrev operand_length : Bool → ℕ
+operand_length true = 6
+operand_length false = 0
 
-operand_short : (b : Bool) (o : Option Rm) (n : ℕ) → length (best_part b o n) ≤ operand_size b
+operand_short : (b : Bool) (o : Option Rm) (n : ℕ) → length (best_part b o n) ≤ operand_length b
 operand_short true o n = part_short true o n
 operand_short false o n = lit≤ tt
 
@@ -74,10 +74,10 @@ number_short true false = lit≤ tt
 
 -- what stands beside the operand
 abbrev all_but : Row → Bool → Bool → ℕ
-all_but r h p = length (best_prefixes h p) + (length (opcode_bytes (key_of r)) + imm_size r h)
+all_but r h p = length (best_prefixes h p) + (length (opcode_bytes (opcode_of r)) + imm_size r h)
 
 -- the number has at most a byte beside an operand, or the opcode is one byte and no prefix stands beside four
-row_short : (r : Row) (h p : Bool) → (not h || can_half r) ≡ true → rep_fits r p ≡ true → (operand_size (has_operand r) + imm_size r h ≤ 7) ⊎ (all_but r h p ≤ 5)
+row_short : (r : Row) (h p : Bool) → (not h || has_operand_size r) ≡ true → rep_fits r p ≡ true → (operand_length (has_operand r) + imm_size r h ≤ 7) ⊎ (all_but r h p ≤ 5)
 row_short (row.AluAcc op f) h p a b = inl (number_short f h)
 row_short (row.MovReg r f) h p a b = inl (number_short f h)
 row_short (row.TestAcc f) h p a b = inl (number_short f h)
@@ -92,17 +92,17 @@ row_short _ h p a b = inl (lit≤ tt)
 
 pub suited_short : (f : Form) → FormSuits f → length (form_best f) ≤ 11
 suited_short f s =
-    let part = best_part (has_operand f.row) f.rm f.middle in
-    let tail = le (imm_size f.row f.half) f.imm in
-    let l1 = prefixes_short f.half f.rep in
-    let l2 = opcode_short (key_of f.row) in
-    let l3 = operand_short (has_operand f.row) f.rm f.middle in
-    let l4 = part_short (has_operand f.row) f.rm f.middle in
-    let e1 = length-append (best_prefixes f.half f.rep) (opcode_bytes (key_of f.row) ++ (part ++ tail)) in
-    let e2 = length-append (opcode_bytes (key_of f.row)) (part ++ tail) in
+    let part = best_part (has_operand f.row) f.rm f.reg_field in
+    let tail = le (imm_size f.row f.operand_size) f.imm in
+    let l1 = prefixes_short f.operand_size f.rep in
+    let l2 = opcode_short (opcode_of f.row) in
+    let l3 = operand_short (has_operand f.row) f.rm f.reg_field in
+    let l4 = part_short (has_operand f.row) f.rm f.reg_field in
+    let e1 = length-append (best_prefixes f.operand_size f.rep) (opcode_bytes (opcode_of f.row) ++ (part ++ tail)) in
+    let e2 = length-append (opcode_bytes (opcode_of f.row)) (part ++ tail) in
     let e3 = length-append part tail in
-    let e4 = length-le (imm_size f.row f.half) f.imm in
-    elim (row_short f.row f.half f.rep s.half s.rep) [
+    let e4 = length-le (imm_size f.row f.operand_size) f.imm in
+    elim (row_short f.row f.operand_size f.rep s.operand_size s.rep) [
       | inl few ↦ omega (arith, few, e1, e2, e3, e4, l1, l2, l3)
       | inr few ↦ omega (arith, few, e1, e2, e3, e4, l4)
     ]

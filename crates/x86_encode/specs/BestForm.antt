@@ -4,7 +4,7 @@ use Rattle.x86_types.specs.declared.operand.Rm.{Rm}
 use Rattle.x86_types.specs.declared.operand.Rm.TheVariants as rm
 use Rattle.x86_types.specs.Numbers.{number_of_reg}
 use Rattle.x86_grammar.specs.declared.row.Form.{Form}
-use Rattle.x86_grammar.specs.Rows.{key_of, has_operand}
+use Rattle.x86_grammar.specs.Rows.{opcode_of, has_operand}
 use Rattle.x86_grammar.specs.Attributes.{imm_size}
 use Rattle.x86_grammar.specs.Operand.{le}
 use Rattle.x86_grammar.specs.Spells.{opcode_bytes}
@@ -17,7 +17,7 @@ best_prefixes true false = 0x66 ∷ []
 best_prefixes false true = 0xF3 ∷ []
 best_prefixes true true = 0x66 ∷ 0xF3 ∷ []
 
--- the operand's bytes with that middle field; where the form names none any operand will do, and [EAX] is the first
+-- the operand's bytes with that reg field; where the form names none any operand will do, and [EAX] is the first
 abbrev pub best_operand : Option Rm → ℕ → List ℕ
 best_operand None n = 8 * n ∷ []
 best_operand (Some (rm.Reg r)) n = (0xC0 + (8 * n + number_of_reg r)) ∷ []
@@ -30,4 +30,4 @@ best_part true o n = best_operand o n
 
 -- the form's first spelling in the order of lengths and bytes
 abbrev pub form_best : Form → List ℕ
-form_best f = best_prefixes f.half f.rep ++ (opcode_bytes (key_of f.row) ++ (best_part (has_operand f.row) f.rm f.middle ++ le (imm_size f.row f.half) f.imm))
+form_best f = best_prefixes f.operand_size f.rep ++ (opcode_bytes (opcode_of f.row) ++ (best_part (has_operand f.row) f.rm f.reg_field ++ le (imm_size f.row f.operand_size) f.imm))

@@ -58,7 +58,7 @@ raw zero d = 0
 raw (suc zero) d = d % 256
 raw (suc (suc n)) d = d
 
--- ModRM with that middle field
+-- ModRM with that reg field
 abbrev pub best_m : ℕ → Address → ℕ
 best_m n a = 64 * best_mod a.base (class_of a.disp) + (8 * n + best_rm a.base a.index)
 
@@ -70,6 +70,6 @@ best_sibs a = sibs (wants_sib a.base a.index) (best_sib a.base a.index a.scale)
 abbrev pub best_disp : Address → List ℕ
 best_disp a = le (best_size a.base (class_of a.disp)) (raw (best_size a.base (class_of a.disp)) a.disp)
 
--- ModRM with that middle field, SIB and the displacement
+-- ModRM with that reg field, SIB and the displacement
 abbrev pub best_bytes : ℕ → Address → List ℕ
 best_bytes n a = best_m n a ∷ (best_sibs a ++ best_disp a)
