@@ -11,4 +11,4 @@ mod writing;
 pub use laws::{little_endian_laws, worked_numbers};
 pub use list::ByteList;
 pub use reading::{half_at, word_at};
-pub use writing::{push_halves, push_words, push_zeros};
+pub use writing::{push_halves, push_word, push_words, push_zeros};

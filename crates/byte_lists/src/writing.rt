@@ -14,7 +14,8 @@ fn push_half(out: &mut Vec<u8>, n: u16) -> Result<(), AllocError>
     out.extend_from_slice(&bytes)
 }
 
-fn push_word(out: &mut Vec<u8>, n: u32) -> Result<(), AllocError>
+/// Puts a number of four bytes (Elf32_Word) behind the list.
+pub fn push_word(out: &mut Vec<u8>, n: u32) -> Result<(), AllocError>
     ensures { OnOk result (out.new.items ≡ out.old.items ++ word_bytes n) }
 {
     let mut bytes = [0; 4];

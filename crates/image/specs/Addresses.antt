@@ -17,12 +17,12 @@ unfoldable pub segment_at : Image → ℕ → Option Segment
 segment_at image a = find (holds a) image.segments
 
 -- the byte of a segment at one of its addresses; after the bytes of the file pages come zeros
-abbrev pub byte_in : ℕ → Segment → ℕ
-byte_in a s = slice_index s.bytes (a - s.start)
+abbrev pub segment_byte : ℕ → Segment → ℕ
+segment_byte a s = slice_index s.bytes (a - s.start)
 
 -- the byte at an address, where it is mapped
 abbrev pub byte_at : Image → ℕ → Option ℕ
-byte_at image a = option_map (byte_in a) (segment_at image a)
+byte_at image a = option_map (segment_byte a) (segment_at image a)
 
 -- whether the byte at an address can be written; none can where nothing is mapped
 abbrev pub can_write : Image → ℕ → Bool
@@ -35,7 +35,7 @@ can_run image a = option_map_or (λ s. has s.perm.0 1) (segment_at image a) fals
 -- the byte of a segment, where it can be run
 abbrev pub code_byte_in : ℕ → Option Segment → Option ℕ
 code_byte_in a None = None
-code_byte_in a (Some s) = cond (has s.perm.0 1) (Some (byte_in a s)) None
+code_byte_in a (Some s) = cond (has s.perm.0 1) (Some (segment_byte a s)) None
 
 -- the byte at an address, where it can be run
 abbrev pub code_byte_at : Image → ℕ → Option ℕ

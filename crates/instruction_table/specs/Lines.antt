@@ -43,8 +43,8 @@ taken_in (Begun high) bytes c = ended high (digit_of c) bytes
 taken_in NotBytes bytes c = record { seen = NotBytes; front = bytes }
 
 -- one more character
-abbrev pub taken : Line → ℕ → Line
-taken line c = taken_in line.seen line.front c
+abbrev pub line_after : Line → ℕ → Line
+line_after line c = taken_in line.seen line.front c
 
 -- a line of whole bytes says what they begin with, and every other line nothing
 abbrev pub Says : Seen → List ℕ → Option Decoded → Type 0

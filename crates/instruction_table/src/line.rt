@@ -52,7 +52,7 @@ impl Line {
 
     /// Takes one more character.
     pub(crate) fn take(&mut self, character: u8)
-        ensures { self.new ≡ spec.taken self.old character }
+        ensures { self.new ≡ spec.line_after self.old character }
     {
         match (self.seen, digit_of(character)) {
             (Seen::Whole, Some(digit)) => self.seen = Seen::Begun(digit),

@@ -11,8 +11,8 @@ abbrev pub counted_bytes : Counts → ℕ
 counted_bytes c = c.spelled + (c.outside + c.short)
 
 -- nothing is counted
-abbrev pub no_counts : Counts
-no_counts = record { instructions = 0; spelled = 0; outside = 0; short = 0 }
+abbrev pub nothing_counted : Counts
+nothing_counted = record { instructions = 0; spelled = 0; outside = 0; short = 0 }
 
 -- the bytes that one step passes
 abbrev pub passed : Decoded → ℕ
@@ -21,21 +21,21 @@ passed Outside = 1
 passed Short = 1
 
 -- what one step adds
-abbrev pub counted : Counts → Decoded → Counts
-counted c (One i len) = record { instructions = c.instructions + 1; spelled = c.spelled + len; outside = c.outside; short = c.short }
-counted c Outside = record { instructions = c.instructions; spelled = c.spelled; outside = c.outside + 1; short = c.short }
-counted c Short = record { instructions = c.instructions; spelled = c.spelled; outside = c.outside; short = c.short + 1 }
+abbrev pub with_counted : Counts → Decoded → Counts
+with_counted c (One i len) = record { instructions = c.instructions + 1; spelled = c.spelled + len; outside = c.outside; short = c.short }
+with_counted c Outside = record { instructions = c.instructions; spelled = c.spelled; outside = c.outside + 1; short = c.short }
+with_counted c Short = record { instructions = c.instructions; spelled = c.spelled; outside = c.outside; short = c.short + 1 }
 
 -- a sweep over the bytes, with the counts before and after it
 pub data Sweeps : List ℕ → Counts → Counts → Type 0 where
   end : (c : Counts) → Sweeps [] c c
-  next : (bytes : List ℕ) (old new : Counts) (d : Decoded) → 0 < length bytes → Decodes bytes d → Sweeps (drop (passed d) bytes) (counted old d) new → Sweeps bytes old new
+  next : (bytes : List ℕ) (old new : Counts) (d : Decoded) → 0 < length bytes → Decodes bytes d → Sweeps (drop (passed d) bytes) (with_counted old d) new → Sweeps bytes old new
 
 -- one step: some bytes more are counted, no more than are left, and each instruction has a byte
-pub record Grows (bytes : List ℕ) (old new : Counts) : Type 0 where
+pub record CountsGrow (bytes : List ℕ) (old new : Counts) : Type 0 where
   pub front : Decoded
   pub decodes : Decodes bytes front
-  pub is : new ≡ counted old front
+  pub is : new ≡ with_counted old front
   pub sum : counted_bytes new ≡ counted_bytes old + passed front
   pub some : counted_bytes old < counted_bytes new
   pub within : counted_bytes new ≤ counted_bytes old + length bytes

@@ -1,6 +1,6 @@
 // A linear sweep: instruction after instruction from the first byte on.
 ghost use Rattle.std.specs.Prelude.{◌≡◌, ◌+◌, ◌≤◌, ◌<◌, ◌^◌, length};
-ghost use Rattle.linear_sweep.specs.Sweep.{Grows, Sweeps, no_counts};
+ghost use Rattle.linear_sweep.specs.Sweep.{CountsGrow, Sweeps, nothing_counted};
 
 use x86_decode::{Decoded, decode};
 
@@ -28,7 +28,7 @@ fn more(seen: Counts, bytes: &[u8]) -> Counts
     requires some { 0 < length bytes.now }
     requires room { seen.spelled + (seen.outside + seen.short) + length bytes.now < 2 ^ 64 }
     requires few { seen.instructions ≤ seen.spelled }
-    ensures { Grows bytes.now seen result }
+    ensures { CountsGrow bytes.now seen result }
 {
     match decode(bytes) {
         Decoded::One(_, length) => Counts {
@@ -50,7 +50,7 @@ fn more(seen: Counts, bytes: &[u8]) -> Counts
 /// Sweeps the bytes. Where no front spells an instruction it goes on with the next byte, so that
 /// each byte is counted once.
 pub fn sweep(bytes: &[u8]) -> Counts
-    ensures swept { Sweeps bytes.now no_counts result }
+    ensures swept { Sweeps bytes.now nothing_counted result }
     ensures all { result.spelled + (result.outside + result.short) ≡ length bytes.now }
     ensures few { result.instructions ≤ result.spelled }
 {

@@ -6,7 +6,7 @@ use Rattle.x86_values.specs.declared.byte.Byte.{Byte}
 use Rattle.x86_values.specs.declared.byte.Byte.TheVariants.{Known, Unspecified}
 use Rattle.x86_values.specs.Words.{IsByte}
 use Rattle.image.specs.declared.image.Segment.{Segment}
-use Rattle.image.specs.Addresses.{segment_at, byte_in}
+use Rattle.image.specs.Addresses.{segment_at, segment_byte}
 use Rattle.memory.specs.Memory.{Place, Memory, wrapped, with_byte, put, put_all, byte_of, bytes_at, forgotten, forget_below, place_in, memory_of, stack_start, stack_place, with_stack, HasBytes}
 use Rattle.memory.specs.MemoryLaws.{ImageHasBytes, StackHasBytes, PutAllHasBytes, ForgetHasBytes, LoadsBytes}
 
@@ -63,9 +63,9 @@ unfolding bytes_at
 loads_bytes m at zero h = All-nil IsByte
 loads_bytes m at (suc n) h = All-cons IsByte _ _ (byte_of_fits (m (wrapped at)) (there m (wrapped at) h)) (loads_bytes m (at + 1) n h)
 
-place_fits : (a : ℕ) (o : Option Segment) → ((b : ℕ) → option_map (byte_in a) o ≡ Some b → b < 256) → FitsPlace (option_map (place_in a) o)
+place_fits : (a : ℕ) (o : Option Segment) → ((b : ℕ) → option_map (segment_byte a) o ≡ Some b → b < 256) → FitsPlace (option_map (place_in a) o)
 place_fits a None h = tt
-place_fits a (Some s) h = h (byte_in a s) refl
+place_fits a (Some s) h = h (segment_byte a s) refl
 
 pub image_has_bytes : ImageHasBytes
 unfolding memory_of

@@ -11,7 +11,7 @@ use Rattle.x86_values.specs.declared.byte.Byte.TheVariants.{Known}
 use Rattle.x86_values.specs.Words.{IsByte, known, known_byte, all_known}
 use Rattle.memory.specs.Memory.{Memory, wrapped, Stored, AccessKind, Load, Store, allows_all, bytes_at, SameIn}
 use Rattle.memory.specs.SystemCall.{Request, Called, Ends, Gives, error, EBADF, EFAULT, passes, Plan, Refused, Stops, Asks, read_plan, asks_known, write_plan, after_answer, read_by, write_by, reads, writes, read_call, write_call, exit_call, transfer, call_by, system_call}
-use Rattle.memory.specs.CallLaws.{SameBuffer, CallByBuffer, SameInIsBuffer, IsPlainCall, CallsArePlain, StoresBytes, IsKept, CallsKeepEnvironment, LeavesInput, CallsLeaveInput}
+use Rattle.memory.specs.CallLaws.{SameBuffer, CallByBuffer, SameInIsBuffer, IsPlainCall, CallsArePlain, StoresBytes, CallIsKept, CallsKeepEnvironment, LeavesInput, CallsLeaveInput}
 use Rattle.memory.proofs.Memories.{allows_in_same, bytes_in_same}
 
 fewer : (at count k : ℕ) (m n : Memory) → k ≤ count → SameIn at count m n → SameIn at k m n
@@ -60,7 +60,6 @@ module _ (m n : Memory) (left : Environment) where
 pub by_buffer : CallByBuffer
 unfolding system_call
 by_buffer q m n left same = same_call m n left (known q.number) q same
-
 
 -- ---- what holds of each outcome
 either : (P : Called → Type 0) (b : Bool) (x y : Called) → P x → P y → P (cond b x y)
@@ -153,19 +152,19 @@ after_kept left h = record { input = h.input; answers = later_answers left.answe
 nothing_stored : StoresBytes []
 nothing_stored = All-nil _
 
-read_kept : (fd at n : ℕ) (x : Answer) (left : Environment) → IsEnvironment left → IsKept (read_by x fd at n left)
+read_kept : (fd at n : ℕ) (x : Answer) (left : Environment) → IsEnvironment left → CallIsKept (read_by x fd at n left)
 read_kept fd at n (Take k) left h = (
   All-cons (λ (s : Stored). All IsByte s.bytes) _ [] (known_bytes _ (All-take (λ b. b < 256) (min k n) left.input h.input)) nothing_stored,
   record { input = All-drop (λ b. b < 256) (min k n) left.input h.input; answers = later_answers left.answers h.answers },
 )
 read_kept fd at n (Fail e) left h = (nothing_stored, after_kept left h)
 
-write_kept : (fd : ℕ) (bytes : List ℕ) (x : Answer) (left : Environment) → IsEnvironment left → IsKept (write_by x fd bytes left)
+write_kept : (fd : ℕ) (bytes : List ℕ) (x : Answer) (left : Environment) → IsEnvironment left → CallIsKept (write_by x fd bytes left)
 write_kept fd bytes (Take k) left h = (nothing_stored, after_kept left h)
 write_kept fd bytes (Fail e) left h = (nothing_stored, after_kept left h)
 
 pub keep_environment : CallsKeepEnvironment
-keep_environment q m left h = outcome_holds IsKept left (record {
+keep_environment q m left h = outcome_holds CallIsKept left (record {
   stopped = tt;
   exited = λ status. tt;
   other = λ number. tt;

@@ -38,12 +38,12 @@ CallsArePlain = (q : Request) (m : Memory) (left : Environment) → IsPlainCall 
 abbrev pub StoresBytes : List Stored → Type 0
 StoresBytes stores = All (λ (s : Stored). All IsByte s.bytes) stores
 
-abbrev pub IsKept : Called → Type 0
-IsKept (Ends e) = Unit {0}
-IsKept (Gives ls result stores left) = StoresBytes stores × IsEnvironment left
+abbrev pub CallIsKept : Called → Type 0
+CallIsKept (Ends e) = Unit {0}
+CallIsKept (Gives ls result stores left) = StoresBytes stores × IsEnvironment left
 
 abbrev pub CallsKeepEnvironment : Type 0
-CallsKeepEnvironment = (q : Request) (m : Memory) (left : Environment) → IsEnvironment left → IsKept (system_call q m left)
+CallsKeepEnvironment = (q : Request) (m : Memory) (left : Environment) → IsEnvironment left → CallIsKept (system_call q m left)
 
 -- of the input it leaves what its reads don't take
 abbrev pub LeavesInput : List ℕ → Called → Type 0

@@ -6,7 +6,7 @@ use Rattle.x86_values.specs.declared.byte.Byte.TheVariants.{Known, Unspecified}
 use Rattle.x86_values.specs.Words.{IsByte}
 use Rattle.image.specs.declared.image.Segment.{Segment}
 use Rattle.image.specs.declared.image.Image.{Image}
-use Rattle.image.specs.Addresses.{has, segment_at, byte_in}
+use Rattle.image.specs.Addresses.{has, segment_at, segment_byte}
 
 -- a mapped byte can be read; a byte of the stack becomes unspecified where esp rises past it
 pub record Place : Type 0 where
@@ -82,7 +82,7 @@ forget_below esp m a = cond (ltb a esp) (forgotten (m a)) (m a)
 
 -- the pages of an image
 abbrev pub place_in : ℕ → Segment → Place
-place_in a s = record { byte = Known (byte_in a s); can_write = has s.perm.0 2; on_stack = false }
+place_in a s = record { byte = Known (segment_byte a s); can_write = has s.perm.0 2; on_stack = false }
 
 unfoldable pub memory_of : Image → Memory
 memory_of image a = option_map (place_in a) (segment_at image a)

@@ -21,7 +21,8 @@ use Rattle.x86_meaning.specs.Step.{State, at_address, settled_by, settled, reque
 use Rattle.x86_meaning.specs.StepLaws.{IsForgotten, StepLaws, StateLaws, with_moved}
 use Rattle.x86_meaning.specs.RunLaws.{ProgramLaws}
 use Rattle.x86_grammar.specs.Fields.{fields_fit, HasSpelling}
-use Rattle.x86_grammar.specs.FrontLaws.{FrontEquations, FrontIsSpelling, LittleEndianLaws}
+use Rattle.x86_grammar.specs.FrontLaws.{FrontEquations, FrontIsSpelling}
+use Rattle.byte_lists.specs.Laws.{LittleEndianLaws}
 use Rattle.rewrite_core.specs.Met.{mov_word}
 use Rattle.rewrite_core.specs.Agreement.{HasMore}
 use Rattle.rewrite_core.specs.Beside.{Away, IsAway, beside, Beside}

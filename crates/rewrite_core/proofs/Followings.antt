@@ -13,7 +13,7 @@ use Rattle.rewrite_core.specs.declared.placing.Next.TheVariants.{On, Done}
 use Rattle.rewrite_core.specs.declared.placing.Placing.{Placing}
 use Rattle.rewrite_core.specs.Places.{judged_at, Reached, first, first_of}
 use Rattle.rewrite_core.proofs.PartCodes.{code-nil}
-use Rattle.rewrite_core.specs.Placing.{place_at, parts_size, parts_code, is_wanting, wanting, IsFinished, Leaves, Settled, ArePlaced, IsNoJump, IsMetBy, IsOpen, IsSettled, Grew, HasPlace, Begins, IsList, IsPlaced, IsFollowed, IsFine, IsMet}
+use Rattle.rewrite_core.specs.Placing.{place_at, parts_size, parts_code, is_wanting, wanting, IsFinished, Leaves, Settled, ArePlaced, IsNoJump, IsMetBy, IsOpenPlace, IsSettled, Grew, HasPlace, Begins, IsList, IsPlaced, IsFollowed, IsFine, IsMet}
 use Rattle.rewrite_core.proofs.PlacedParts.{grows_same, grows_on}
 
 pub grew_on : (s t u : Placing) → Grew s t → Grew t u → Grew s u
@@ -21,12 +21,12 @@ grew_on s t u g h = grows_on s.places.items t.places.items u.places.items s.part
 
 -- ---- a run that has come from one place to another
 pub record IsFollowing (page : List ℕ) (s t : Placing) (from at : ℕ) : Type 0 where
-  pub opened : IsOpen page t at
+  pub opened : IsOpenPlace page t at
   pub grew : Grew s t
   pub placed : ((at ≡ from) × (t.size ≡ s.size)) ⊎ (place_at t.places.items from ≡ Some s.size)
   pub begins : Begins page s from → Begins page t at
 
-pub following_none : (page : List ℕ) (s : Placing) (from : ℕ) → IsOpen page s from → IsFollowing page s s from from
+pub following_none : (page : List ℕ) (s : Placing) (from : ℕ) → IsOpenPlace page s from → IsFollowing page s s from from
 following_none page s from o = record { opened = o; grew = grows_same s.places.items s.parts.items; placed = inl (refl, refl); begins = λ b. b }
 
 from_placed : (s t u : Placing) (from at : ℕ) → ((at ≡ from) × (t.size ≡ s.size)) ⊎ (place_at t.places.items from ≡ Some s.size) → Grew t u → place_at u.places.items at ≡ Some t.size → place_at u.places.items from ≡ Some s.size
@@ -83,7 +83,7 @@ module _ (page : List ℕ) (s : Placing) (settled : IsSettled page s) (index : �
     pub lead_within : to < length s.places.items
     lead_within = let a = settled.all in omega (arith, lead_fine.0)
 
-    pub lead_open : place_at s.places.items to ≡ None → IsOpen page s to
+    pub lead_open : place_at s.places.items to ≡ None → IsOpenPlace page s to
     lead_open free = record { placed = any_next page s.places.items s.parts.items s.size (Some to) settled; free = free; reached = lead_fine.1; within = lead_fine.0 }
 
     pub met_there : HasPlace s.places.items to → IsMetBy page s s index
@@ -149,7 +149,7 @@ no_place = None
 none_placed : (n p : ℕ) → place_at (replicate n None) p ≡ None
 none_placed n p = elim (cases_lt p n) [ inl h ↦ get_or-replicate n p None None h | inr h ↦ get_or_past (replicate n no_place) p None (omega (arith, length-replicate n no_place)) ]
 
-pub open_first : (page : List ℕ) (s : Placing) → length page ≡ 4096 → s.places.items ≡ replicate 4097 None → s.parts.items ≡ [] → s.size ≡ 0 → IsOpen page s 0
+pub open_first : (page : List ℕ) (s : Placing) → length page ≡ 4096 → s.places.items ≡ replicate 4097 None → s.parts.items ≡ [] → s.size ≡ 0 → IsOpenPlace page s 0
 open_first page s l p e z =
     let none : (q : ℕ) → place_at s.places.items q ≡ None = λ q. ap (λ (x : List (Option ℕ)). place_at x q) p ∙ none_placed 4097 q in
     record {

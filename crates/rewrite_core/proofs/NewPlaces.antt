@@ -1,11 +1,10 @@
 -- What stands at the new places of a page.
-use Rattle.std.proofs.Common.{◌≡◌, ℕ, ◌+◌, ◌-◌, ◌*◌, ◌/◌, ◌%◌, ◌^◌, ◌<◌, ◌≤◌, List, ◌∷◌, ◌++◌, length, take, drop, replicate, min, All, Some, None, refl, sym, ap, ◌∙◌, inl, arith, append_assoc, length-drop, length-take}
+use Rattle.std.proofs.Common.{◌≡◌, ℕ, ◌+◌, ◌-◌, ◌*◌, ◌/◌, ◌%◌, ◌^◌, ◌<◌, ◌≤◌, List, [], ◌∷◌, ◌++◌, length, take, drop, replicate, min, All, Some, None, refl, sym, ap, ◌∙◌, inl, arith, append_assoc, length-drop, length-take}
 use Rattle.std.proofs.lemmas.List.{take-append-drop, length-take-le}
 use Rattle.std.proofs.lemmas.List.Elements.{All-drop}
 use Rattle.x86_types.specs.declared.instr.Instr.{Instr}
 use Rattle.x86_types.specs.declared.instr.Instr.TheVariants.{Jmp, Int80}
-use Rattle.byte_lists.specs.LittleEndian.{word_bytes}
-use Rattle.x86_grammar.specs.Operand.{from_le}
+use Rattle.byte_lists.specs.LittleEndian.{word_bytes, from_le}
 use Rattle.x86_grammar.specs.Front.{front}
 use Rattle.x86_code.specs.Code.{code_of}
 use Rattle.rewrite_core.specs.declared.places.Judgement.{Judgement}
@@ -65,7 +64,7 @@ module _ (laws : LawsBelow) (page code : List ℕ) (bytes : All (λ b. b < 256) 
   new_jump q to e =
       let n : ℕ = jump_by q to in
       let own : List ℕ = 0xE9 ∷ word_bytes n in
-      let number : from_le 4 (word_bytes n) ≡ n = laws.numbers.four (n % 256) (n / 256 % 256) (n / 65536 % 256) (n / 16777216 % 256) ∙ word_again n (jump_small q to) in
+      let number : from_le 4 (word_bytes n) ≡ n = laws.numbers.word_from_is (n % 256) (n / 256 % 256) (n / 65536 % 256) (n / 16777216 % 256) [] ∙ word_again n (jump_small q to) in
       begins_there q 5 own e (omega arith) ∙ laws.equations.jmp_near (n % 256) (n / 256 % 256) (n / 65536 % 256) (n / 16777216 % 256) (drop 5 (drop q code) ++ zeros_after) ∙ ap (λ (k : ℕ). Some (Jmp k, 5)) number
 
   -- the bytes of an instruction

@@ -10,7 +10,7 @@ use Rattle.rewrite_core.specs.declared.places.Judgement.TheVariants.{GoesOn, Jum
 use Rattle.rewrite_core.specs.declared.placing.Part.{Part}
 use Rattle.rewrite_core.specs.declared.placing.Part.TheVariants.{Kept, Leads, Stops}
 use Rattle.rewrite_core.specs.Places.{judged_at, Reached}
-use Rattle.rewrite_core.specs.Placing.{place_at, part_size, IsFine, Leaves, Settled, is_wanting, wanting, ArePlaced, IsNext, Grows, HasPlace}
+use Rattle.rewrite_core.specs.Placing.{place_at, part_size, IsFine, Leaves, Settled, is_wanting, wanting, ArePlaced, IsNext, PlacingGrows, HasPlace}
 use Rattle.rewrite_core.proofs.PartCodes.{has_more, has_last, size_push}
 
 module _ (page : List ℕ) (places new : List (Option ℕ)) (parts : List Part) (size : ℕ) (part : Part) (at : ℕ) (next : Option ℕ) (keeps : (p q : ℕ) → place_at places p ≡ Some q → place_at new p ≡ Some q)
@@ -94,7 +94,7 @@ module _ (page : List ℕ) (places : List (Option ℕ)) (parts : List Part) (siz
   pub spare : length (parts ++ part ∷ []) + 1 + 2 * wanting After ≤ 2 * (length page + 1)
   spare = let r = s.placed.room in omega (arith, wanting_set places at size s.free at_within, length_push parts part)
 
-  pub grows : Grows places parts After (parts ++ part ∷ [])
+  pub grows : PlacingGrows places parts After (parts ++ part ∷ [])
   grows = record { keeps = keeps_set places at size s.free; begins = take_at parts (part ∷ []) (length parts) refl }
 
 -- a run goes on where a place has its new place elsewhere already
@@ -103,10 +103,10 @@ pub linked : (page : List ℕ) (places : List (Option ℕ)) (parts : List Part) 
 linked page places parts size at s h r room =
     extended page places places parts size (Leads at) at None (λ p q e. e) (inr (inl (has_last parts size (Leads at) s.sized))) s refl (λ p q e. inl e) (h, r) (omega arith) room
 
-pub grows_same : (places : List (Option ℕ)) (parts : List Part) → Grows places parts places parts
+pub grows_same : (places : List (Option ℕ)) (parts : List Part) → PlacingGrows places parts places parts
 grows_same places parts = record { keeps = λ p q e. e; begins = take_all (length parts) parts (omega arith) }
 
-pub grows_on : (p1 p2 p3 : List (Option ℕ)) (a b c : List Part) → Grows p1 a p2 b → Grows p2 b p3 c → Grows p1 a p3 c
+pub grows_on : (p1 p2 p3 : List (Option ℕ)) (a b c : List Part) → PlacingGrows p1 a p2 b → PlacingGrows p2 b p3 c → PlacingGrows p1 a p3 c
 grows_on p1 p2 p3 a b c g h = record {
   keeps = λ p q e. h.keeps p q (g.keeps p q e);
   begins =

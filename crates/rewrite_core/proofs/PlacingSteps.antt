@@ -12,7 +12,7 @@ use Rattle.rewrite_core.specs.declared.placing.Part.TheVariants.{Kept, Leads, St
 use Rattle.rewrite_core.specs.declared.placing.Next.TheVariants.{On, Done, Refused}
 use Rattle.rewrite_core.specs.declared.placing.Placing.{Placing}
 use Rattle.rewrite_core.specs.Places.{judged_at, on, jump, Straight, then_on, stop}
-use Rattle.rewrite_core.specs.Placing.{place_at, part_size, IsFine, ArePlaced, IsOpen, IsAdded, Grows, HasPlace, IsNoJump, IsFront, IsWhole, IsPlaced, wanting, Settled}
+use Rattle.rewrite_core.specs.Placing.{place_at, part_size, IsFine, ArePlaced, IsOpenPlace, IsAdded, PlacingGrows, HasPlace, IsNoJump, IsFront, IsWhole, IsPlaced, wanting, Settled}
 use Rattle.rewrite_core.proofs.JudgedPlaces.{goes_short, jumps_within}
 use Rattle.rewrite_core.proofs.Chains.{one_end, ends_is_end, jumps_is_end}
 use Rattle.rewrite_core.proofs.PartCodes.{code_push, has_last}
@@ -65,7 +65,7 @@ pub record IsPut (s t : Placing) (at : ℕ) (part : Part) : Type 0 where
   pub parts : t.parts.items ≡ s.parts.items ++ part ∷ []
   pub size : t.size ≡ s.size + part_size part
 
-module _ (page : List ℕ) (s t : Placing) (at : ℕ) (o : IsOpen page s at) (part : Part) (put : IsPut s t at part) where
+module _ (page : List ℕ) (s t : Placing) (at : ℕ) (o : IsOpenPlace page s at) (part : Part) (put : IsPut s t at part) where
   abbrev After : (List (Option ℕ) → List Part → ℕ → Type 0) → Type 0
   After P = P (set s.places.items at (Some s.size)) (s.parts.items ++ part ∷ []) (s.size + part_size part)
 
@@ -79,14 +79,14 @@ module _ (page : List ℕ) (s t : Placing) (at : ℕ) (o : IsOpen page s at) (pa
   put_spare : length t.parts.items + 1 + 2 * wanting t.places.items ≤ 2 * (length page + 1)
   put_spare = after (λ a b n. length b + 1 + 2 * wanting a ≤ 2 * (length page + 1)) (spare page s.places.items s.parts.items s.size at o part None)
 
-  put_grows : Grows s.places.items s.parts.items t.places.items t.parts.items
-  put_grows = after (λ a b n. Grows s.places.items s.parts.items a b) (grows page s.places.items s.parts.items s.size at o part None)
+  put_grows : PlacingGrows s.places.items s.parts.items t.places.items t.parts.items
+  put_grows = after (λ a b n. PlacingGrows s.places.items s.parts.items a b) (grows page s.places.items s.parts.items s.size at o part None)
 
   put_at : place_at t.places.items at ≡ Some s.size
   put_at = after (λ a b n. place_at a at ≡ Some s.size) (placed_at s.places.items at s.size (at_within page s.places.items s.parts.items s.size at o part None))
 
 -- ---- what a step leaves
-pub jumps_step : FrontEquations → (page : List ℕ) (s t : Placing) (at to : ℕ) → length page ≡ 4096 → IsOpen page s at → judged_at page at ≡ Jumps to → IsPut s t at (Leads to) → IsPlaced page s t at Done
+pub jumps_step : FrontEquations → (page : List ℕ) (s t : Placing) (at to : ℕ) → length page ≡ 4096 → IsOpenPlace page s at → judged_at page at ≡ Jumps to → IsPut s t at (Leads to) → IsPlaced page s t at Done
 jumps_step laws page s t at to l o e put = record {
   goes =
       let settled = subst (λ (j : Judgement). Settled (set s.places.items at (Some s.size)) (s.parts.items ++ Leads to ∷ []) (s.size + 5) None at s.size j) (sym e) (has_last s.parts.items s.size (Leads to) o.placed.sized) in
@@ -96,7 +96,7 @@ jumps_step laws page s t at to l o e put = record {
   list = λ f n r g. absurd (not_jumps page s.places.items s.parts.items at f to e n r g);
 }
 
-pub ends_step : (page : List ℕ) (s t : Placing) (at : ℕ) → IsOpen page s at → judged_at page at ≡ Ends → IsPut s t at Stops → IsPlaced page s t at Done
+pub ends_step : (page : List ℕ) (s t : Placing) (at : ℕ) → IsOpenPlace page s at → judged_at page at ≡ Ends → IsPut s t at Stops → IsPlaced page s t at Done
 ends_step page s t at o e put = record {
   goes =
       let settled = subst (λ (j : Judgement). Settled (set s.places.items at (Some s.size)) (s.parts.items ++ Stops ∷ []) (s.size + 2) None at s.size j) (sym e) (has_last s.parts.items s.size Stops o.placed.sized) in
@@ -106,7 +106,7 @@ ends_step page s t at o e put = record {
   list = λ f n r g. after page s t at o Stops put (λ a b k. IsWhole page b n) (list_stops page s.places.items s.parts.items at f e n r g);
 }
 
-module _ (laws : FrontEquations) (page : List ℕ) (s t : Placing) (at len : ℕ) (o : IsOpen page s at) (e : judged_at page at ≡ GoesOn len) (put : IsPut s t at (Kept at len)) where
+module _ (laws : FrontEquations) (page : List ℕ) (s t : Placing) (at len : ℕ) (o : IsOpenPlace page s at) (e : judged_at page at ≡ GoesOn len) (put : IsPut s t at (Kept at len)) where
   short : (1 ≤ len) × (len ≤ 5) × (at + len ≤ length page)
   short = goes_short laws page at len e o.within
 
@@ -134,18 +134,18 @@ module _ (laws : FrontEquations) (page : List ℕ) (s t : Placing) (at len : ℕ
       along Q t.places.items u.places.items (t.parts.items ++ Leads (at + len) ∷ []) u.parts.items (t.size + 5) u.size a.places a.parts a.size h in
       record {
         goes = to_u (λ x y n. ArePlaced page x y n None) (linked page t.places.items t.parts.items t.size (at + len) ahead short.2 (on len o.reached e) (put_spare page s t at o (Kept at len) put));
-        grew = to_u (λ x y n. Grows s.places.items s.parts.items x y) (grows_on s.places.items t.places.items t.places.items s.parts.items t.parts.items (t.parts.items ++ Leads (at + len) ∷ [])
+        grew = to_u (λ x y n. PlacingGrows s.places.items s.parts.items x y) (grows_on s.places.items t.places.items t.places.items s.parts.items t.parts.items (t.parts.items ++ Leads (at + len) ∷ [])
             (put_grows page s t at o (Kept at len) put) (record { keeps = λ p q f. f; begins = take_at t.parts.items (Leads (at + len) ∷ []) (length t.parts.items) refl }));
         placed = to_u (λ x y n. place_at x at ≡ Some s.size) (put_at page s t at o (Kept at len) put);
         list = λ f. absurd (not_linked page t.places.items t.parts.items (at + len) (fronts_on f) there);
       }
 
-pub left_out_step : (page : List ℕ) (s t : Placing) (at : ℕ) → IsOpen page s at → judged_at page at ≡ LeftOut → t.places.items ≡ set s.places.items at (Some s.size) → t.parts.items ≡ s.parts.items → IsPlaced page s t at Refused
+pub left_out_step : (page : List ℕ) (s t : Placing) (at : ℕ) → IsOpenPlace page s at → judged_at page at ≡ LeftOut → t.places.items ≡ set s.places.items at (Some s.size) → t.parts.items ≡ s.parts.items → IsPlaced page s t at Refused
 left_out_step page s t at o e f g =
     let to_t = λ (Q : List (Option ℕ) → List Part → ℕ → Type 0) (h : Q (set s.places.items at (Some s.size)) s.parts.items 0). along Q (set s.places.items at (Some s.size)) t.places.items s.parts.items t.parts.items 0 0 f g refl h in
     record {
       goes = record { at = at; reached = o.reached; left_out = e };
-      grew = to_t (λ x y n. Grows s.places.items s.parts.items x y) (record { keeps = keeps_set s.places.items at s.size o.free; begins = take_all (length s.parts.items) s.parts.items (omega arith) });
+      grew = to_t (λ x y n. PlacingGrows s.places.items s.parts.items x y) (record { keeps = keeps_set s.places.items at s.size o.free; begins = take_all (length s.parts.items) s.parts.items (omega arith) });
       placed = to_t (λ x y n. place_at x at ≡ Some s.size) (placed_at s.places.items at s.size (at_within page s.places.items s.parts.items s.size at o Stops None));
       list = λ h. tt;
     }
@@ -154,7 +154,7 @@ left_out_step page s t at o e f g =
 pub small_size : (page : List ℕ) (s : Placing) (next : Option ℕ) → length page ≡ 4096 → ArePlaced page s.places.items s.parts.items s.size next → s.size ≤ 40970
 small_size page s next l a = let r = a.room in let h = a.small in omega arith
 
-pub goes_within : FrontEquations → (page : List ℕ) (s t : Placing) (at len : ℕ) → length page ≡ 4096 → IsOpen page s at → judged_at page at ≡ GoesOn len → t.places.items ≡ set s.places.items at (Some s.size) → (len ≤ 5) × (at + len ≤ 4096) × (at + len < length t.places.items)
+pub goes_within : FrontEquations → (page : List ℕ) (s t : Placing) (at len : ℕ) → length page ≡ 4096 → IsOpenPlace page s at → judged_at page at ≡ GoesOn len → t.places.items ≡ set s.places.items at (Some s.size) → (len ≤ 5) × (at + len ≤ 4096) × (at + len < length t.places.items)
 goes_within laws page s t at len l o e put =
     let h = goes_short laws page at len e o.within in
     let a = o.placed.all in

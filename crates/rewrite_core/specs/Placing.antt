@@ -98,8 +98,8 @@ pub record IsNext (page : List ℕ) (places : List (Option ℕ)) (parts : List P
 abbrev pub IsSettled : List ℕ → Placing → Type 0
 IsSettled page s = ArePlaced page s.places.items s.parts.items s.size None
 
-abbrev pub IsOpen : List ℕ → Placing → ℕ → Type 0
-IsOpen page s at = IsNext page s.places.items s.parts.items s.size at
+abbrev pub IsOpenPlace : List ℕ → Placing → ℕ → Type 0
+IsOpenPlace page s at = IsNext page s.places.items s.parts.items s.size at
 
 -- a part is added at the end
 pub record IsAdded (old new : Placing) (part : Part) : Type 0 where
@@ -108,12 +108,12 @@ pub record IsAdded (old new : Placing) (part : Part) : Type 0 where
   pub size : new.size ≡ old.size + part_size part
 
 -- what has a new place keeps it, and the parts stay where they are
-pub record Grows (places : List (Option ℕ)) (parts : List Part) (new_places : List (Option ℕ)) (new_parts : List Part) : Type 0 where
+pub record PlacingGrows (places : List (Option ℕ)) (parts : List Part) (new_places : List (Option ℕ)) (new_parts : List Part) : Type 0 where
   pub keeps : (p q : ℕ) → place_at places p ≡ Some q → place_at new_places p ≡ Some q
   pub begins : take (length parts) new_parts ≡ parts
 
 abbrev pub Grew : Placing → Placing → Type 0
-Grew old new = Grows old.places.items old.parts.items new.places.items new.parts.items
+Grew old new = PlacingGrows old.places.items old.parts.items new.places.items new.parts.items
 
 -- a place has a new place
 abbrev pub HasPlace : List (Option ℕ) → ℕ → Type 0
@@ -158,13 +158,13 @@ ListGoes page s Done = IsList page s
 ListGoes page s Refused = Unit {0}
 
 -- what comes after the placing of a place
-abbrev pub Goes : List ℕ → ℕ → Placing → Next → Type 0
-Goes page at s (On next) = (at < next) × IsOpen page s next
-Goes page at s Done = IsSettled page s
-Goes page at s Refused = IsLeftOut page
+abbrev pub PlacingGoes : List ℕ → ℕ → Placing → Next → Type 0
+PlacingGoes page at s (On next) = (at < next) × IsOpenPlace page s next
+PlacingGoes page at s Done = IsSettled page s
+PlacingGoes page at s Refused = IsLeftOut page
 
 pub record IsPlaced (page : List ℕ) (old new : Placing) (at : ℕ) (next : Next) : Type 0 where
-  pub goes : Goes page at new next
+  pub goes : PlacingGoes page at new next
   pub grew : Grew old new
   pub placed : place_at new.places.items at ≡ Some old.size
   pub list : Begins page old at → ListGoes page new next
@@ -176,8 +176,8 @@ pub record IsFollowed (page : List ℕ) (old new : Placing) (from : ℕ) : Type 
   pub placed : place_at new.places.items from ≡ Some old.size
   pub list : Begins page old from → IsList page new
 
-abbrev pub Follows : List ℕ → Placing → Placing → ℕ → Bool → Type 0
-Follows page old new from all = MatchBool all (IsFollowed page old new from) (IsLeftOut page)
+abbrev pub FollowsPlaces : List ℕ → Placing → Placing → ℕ → Bool → Type 0
+FollowsPlaces page old new from all = MatchBool all (IsFollowed page old new from) (IsLeftOut page)
 
 -- what a part leads to is placed
 pub record IsMetBy (page : List ℕ) (old new : Placing) (index : ℕ) : Type 0 where
@@ -186,8 +186,8 @@ pub record IsMetBy (page : List ℕ) (old new : Placing) (index : ℕ) : Type 0 
   pub met : IsMet new.places.items (slice_index_or old.parts.items index Stops)
   pub list : IsList page old → IsList page new
 
-abbrev pub Meets : List ℕ → Placing → Placing → ℕ → Bool → Type 0
-Meets page old new index all = MatchBool all (IsMetBy page old new index) (IsLeftOut page)
+abbrev pub MeetsPlaces : List ℕ → Placing → Placing → ℕ → Bool → Type 0
+MeetsPlaces page old new index all = MatchBool all (IsMetBy page old new index) (IsLeftOut page)
 
 -- all that a run can reach is placed
 pub record IsFinished (page : List ℕ) (s : Placing) : Type 0 where

@@ -58,6 +58,7 @@ pub fn agreement_laws()
     word_laws();
     memory_laws();
     call_laws();
+    little_endian_laws();
     spelled_fields_fit();
     front_laws();
     step_laws();

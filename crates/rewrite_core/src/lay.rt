@@ -1,12 +1,11 @@
 // The new code of a page.
 ghost use Rattle.std.specs.Prelude.{◌≡◌, ◌≤◌, ◌++◌, length, IfOk, MatchOption, OnOk, All};
 ghost use Rattle.std.specs.Option.{unwrap_or};
-ghost use Rattle.byte_lists.specs.LittleEndian.{word_bytes};
 ghost use Rattle.rewrite_core.specs.Places.{IsLaid, IsLeftOut};
 ghost use Rattle.rewrite_core.specs.Placing.{place_at, jump_bytes, with_part, parts_code, parts_size, IsFine};
 
 use crate::placing::{Part, placing_of};
-use byteorder::{ByteOrder, LittleEndian};
+use byte_lists::push_word;
 use std::alloc::{AllocError, Global};
 use x86_grammar::front_laws;
 
@@ -18,15 +17,6 @@ fn new_place(places: &[Option<u32>], at: usize) -> u32
         Some(Some(place)) => *place,
         _ => 0,
     }
-}
-
-/// The four bytes of a number, lowest first.
-fn push_word(out: &mut Vec<u8>, n: u32) -> Result<(), AllocError>
-    ensures { OnOk result (out.new.items ≡ out.old.items ++ word_bytes n) }
-{
-    let mut bytes = [0; 4];
-    LittleEndian::write_u32(&mut bytes, n);
-    out.extend_from_slice(&bytes)
 }
 
 /// E9 rel32, to a place of the new code.

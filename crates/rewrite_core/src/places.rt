@@ -10,8 +10,8 @@ use x86_types::{Instr, Rm, Src, Width};
 /// The address of the page of code.
 const PAGE_START: u32 = 0x0804_9000;
 
-// What a place is: an instruction of so many bytes after which the run goes on, a jump to a place, nothing, or what isn't
-// taken yet. Places are distances from the first byte of the page.
+/// What a place is: an instruction of so many bytes after which the run goes on, a jump to a place, nothing, or what isn't
+/// taken yet. Places are distances from the first byte of the page.
 #[derive(Clone, Copy, Debug)]
 pub enum Judgement {
     GoesOn(usize),

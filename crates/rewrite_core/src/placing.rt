@@ -1,7 +1,7 @@
 // The placing of what a run can reach: the parts of the new code, and the new place of each old one.
 ghost use Rattle.std.specs.Prelude.{◌≡◌, ◌+◌, ◌^◌, ◌<◌, length, IfOk, OnOk, MatchOption};
 ghost use Rattle.rewrite_core.specs.Places.{IsLeftOut};
-ghost use Rattle.rewrite_core.specs.Placing.{part_size, IsSettled, IsOpen, IsAdded, IsPlaced, Follows, Meets, IsFinished};
+ghost use Rattle.rewrite_core.specs.Placing.{part_size, IsSettled, IsOpenPlace, IsAdded, IsPlaced, FollowsPlaces, MeetsPlaces, IsFinished};
 
 use crate::places::{Judgement, judged_at};
 use std::alloc::{AllocError, Global};
@@ -56,7 +56,7 @@ impl Placing {
     // Places a place at the end of the new code.
     fn place(&mut self, page: &[u8], at: usize) -> Result<Next, AllocError>
         requires page { length page.now ≡ 4096 }
-        requires opened { IsOpen page.now self.old at }
+        requires opened { IsOpenPlace page.now self.old at }
         ensures { IfOk result (λ next. IsPlaced page.now self.old self.new at next) }
     {
         front_laws();
@@ -88,8 +88,8 @@ impl Placing {
     // one of them isn't taken yet.
     fn follow(&mut self, page: &[u8], from: usize) -> Result<bool, AllocError>
         requires page { length page.now ≡ 4096 }
-        requires opened { IsOpen page.now self.old from }
-        ensures { IfOk result (λ all. Follows page.now self.old self.new from all) }
+        requires opened { IsOpenPlace page.now self.old from }
+        ensures { IfOk result (λ all. FollowsPlaces page.now self.old self.new from all) }
     {
         let mut at = from;
         'run: loop {
@@ -106,7 +106,7 @@ impl Placing {
         requires page { length page.now ≡ 4096 }
         requires index { index < length self.old.parts.items }
         requires settled { IsSettled page.now self.old }
-        ensures { IfOk result (λ all. Meets page.now self.old self.new index all) }
+        ensures { IfOk result (λ all. MeetsPlaces page.now self.old self.new index all) }
     {
         let Part::Leads(to) = self.parts[index] else {
             return Ok(true);

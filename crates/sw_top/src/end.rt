@@ -30,7 +30,7 @@ pub fn status(end: &End) -> u8
     }
 }
 
-// The line of an end, where it has one.
+/// The line of an end, where it has one.
 pub fn line_of(end: &End) -> Option<&'static str>
     ensures { MatchOption result (line_of end.now ≡ None) (λ text. line_of end.now ≡ Some text.now) }
 {

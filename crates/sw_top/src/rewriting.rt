@@ -18,7 +18,7 @@ const LIMIT: usize = 16_777_217;
 /// The text of a map without entries.
 const MAP_TEXT: &str = "secondwrite-map 1\n";
 
-// Loads IN, and stores the new file as OUT and the map as MAP.
+/// Loads IN, and stores the new file as OUT and the map as MAP.
 pub fn perform_rewrite<H: Host>(alloc: Global, names: &Names, host: &mut H) -> End
     ensures performs { Tells (H.told host.old) (H.told host.new) (PerformsRewrite names.now result) }
     ensures cause { result ≡ End.Host → Rose (H.faults host.old) (H.faults host.new) }

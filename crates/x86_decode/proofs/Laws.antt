@@ -12,7 +12,8 @@ use Rattle.x86_grammar.specs.Fields.{HasSpelling}
 use Rattle.x86_grammar.specs.Front.{front}
 use Rattle.x86_grammar.specs.FrontLaws.{FrontIsSpelling}
 use Rattle.x86_grammar.specs.Fronts.{FrontSpells, IsShort, IsOutside}
-use Rattle.x86_grammar.specs.Reading.{read, AreBytes, ReadsRight}
+use Rattle.byte_lists.specs.LittleEndian.{AreBytes}
+use Rattle.x86_grammar.specs.Reading.{read, ReadsRight}
 use Rattle.x86_decode.specs.declared.decoding.Decoded.{Decoded}
 use Rattle.x86_decode.specs.declared.decoding.Decoded.TheVariants.{One, Outside, Short}
 use Rattle.x86_decode.specs.Decoding.{judge, decoded}

@@ -1,5 +1,6 @@
 ghost use Rattle.std.specs.Prelude.{◌≡◌, ◌+◌, ◌*◌, ◌≤◌, ◌<◌, ◌^◌, length};
-ghost use Rattle.x86_grammar.specs.Operand.{disp_size, from_le};
+ghost use Rattle.byte_lists.specs.LittleEndian.{from_le};
+ghost use Rattle.x86_grammar.specs.Operand.{disp_size};
 ghost use Rattle.x86_grammar.specs.Reading as reading;
 ghost use Rattle.x86_grammar.specs.Rows.{attributes_of, bit};
 ghost use Rattle.x86_grammar.specs.Spells as spells;

@@ -11,7 +11,8 @@ use Rattle.x86_types.specs.Numbers.{number_of_reg, reg_of}
 use Rattle.x86_grammar.specs.declared.row.Counts.{Counts}
 use Rattle.x86_grammar.specs.Rows.{opcode_of, has_operand}
 use Rattle.x86_grammar.specs.Attributes.{has_operand_size, imm_size}
-use Rattle.x86_grammar.specs.Operand.{Operand, IsOperand, operand_bytes, rm_of, le, address}
+use Rattle.byte_lists.specs.LittleEndian.{le}
+use Rattle.x86_grammar.specs.Operand.{Operand, IsOperand, operand_bytes, rm_of, address}
 use Rattle.x86_grammar.specs.Spells.{Spelling, IsSpelling, spelling_bytes, opcode_bytes, operand_part, no_counts, counted}
 use Rattle.x86_grammar.specs.Rows.{bit}
 use Rattle.x86_encode.specs.BestOperand.{best_bytes}

@@ -6,7 +6,8 @@ use Rattle.x86_types.specs.declared.operand.Reg.{Reg}
 use Rattle.x86_types.specs.declared.operand.Address.{Address}
 use Rattle.x86_types.specs.declared.width.Width.TheVariants.{Four}
 use Rattle.x86_grammar.specs.Parts.{signed}
-use Rattle.x86_grammar.specs.Operand.{le, disp_of, address, IsOperand, Operand, operand_bytes}
+use Rattle.byte_lists.specs.LittleEndian.{le}
+use Rattle.x86_grammar.specs.Operand.{disp_of, address, IsOperand, Operand, operand_bytes}
 use Rattle.x86_encode.specs.BestOperand.{class_of, raw, best_m, best_bytes}
 use Rattle.x86_encode.proofs.Ordering.{ByBytes, NotAfter, not_after_bytes, not_after_true, ByBytes-refl}
 use Rattle.x86_grammar.specs.Operand.{has_sib, disp_size, base_of, index_of, scale_of, sibs}

@@ -11,7 +11,8 @@ use Rattle.x86_types.specs.declared.width.Width.TheVariants.{Four}
 use Rattle.x86_types.specs.Numbers.{reg_of, number_of_reg}
 use Rattle.x86_grammar.specs.Fields.{number_fits, index_fits, address_fits, rm_fits}
 use Rattle.x86_grammar.specs.Parts.{signed}
-use Rattle.x86_grammar.specs.Operand.{Operand, IsOperand, operand_bytes, le, sibs, has_sib, disp_size, disp_of, base_of, index_of, scale_of, address, rm_of}
+use Rattle.byte_lists.specs.LittleEndian.{le}
+use Rattle.x86_grammar.specs.Operand.{Operand, IsOperand, operand_bytes, sibs, has_sib, disp_size, disp_of, base_of, index_of, scale_of, address, rm_of}
 use Rattle.x86_encode.specs.BestOperand.{class_of, best_mod, best_size, best_rm, best_sib, best_m, best_bytes, wants_sib, low, raw}
 use Rattle.x86_encode.specs.BestForm.{best_operand}
 use Rattle.x86_encode.proofs.OperandTest.{class_small, sib_same, base_same, index_same, size_same}

@@ -12,7 +12,8 @@ use Rattle.x86_grammar.specs.declared.row.Row.TheVariants as row
 use Rattle.x86_grammar.specs.Rows.{opcode_of, has_operand}
 use Rattle.x86_grammar.specs.Attributes.{has_operand_size, imm_size, rep_fits, width_of}
 use Rattle.x86_grammar.specs.FormLaws.{FormSuits}
-use Rattle.x86_grammar.specs.Operand.{le, sibs}
+use Rattle.byte_lists.specs.LittleEndian.{le}
+use Rattle.x86_grammar.specs.Operand.{sibs}
 use Rattle.x86_grammar.specs.Parts.{signed}
 use Rattle.x86_grammar.specs.Spells.{opcode_bytes}
 use Rattle.x86_encode.specs.BestOperand.{best_size, best_sib, class_of, raw, wants_sib}

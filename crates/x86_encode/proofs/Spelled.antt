@@ -11,7 +11,8 @@ use Rattle.x86_grammar.specs.Rows.{opcode_of, has_operand}
 use Rattle.x86_grammar.specs.Attributes.{has_operand_size, imm_size, rep_fits}
 use Rattle.x86_grammar.specs.FormLaws.{FormSuits, FormFits}
 use Rattle.x86_grammar.specs.Forms.{In, forms}
-use Rattle.x86_grammar.specs.Operand.{Operand, le}
+use Rattle.byte_lists.specs.LittleEndian.{le}
+use Rattle.x86_grammar.specs.Operand.{Operand}
 use Rattle.x86_grammar.specs.Spells.{is_prefix, counts_of, prefixes_fit, operand_size_in, opcode_bytes, operand_part, spelling_bytes, Spelling, Spells}
 use Rattle.x86_encode.specs.BestForm.{best_prefixes, best_operand, best_part, form_best}
 use Rattle.x86_encode.proofs.ReadBack.{Shown, operand_shown}

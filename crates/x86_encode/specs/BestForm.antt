@@ -6,7 +6,7 @@ use Rattle.x86_types.specs.Numbers.{number_of_reg}
 use Rattle.x86_grammar.specs.declared.row.Form.{Form}
 use Rattle.x86_grammar.specs.Rows.{opcode_of, has_operand}
 use Rattle.x86_grammar.specs.Attributes.{imm_size}
-use Rattle.x86_grammar.specs.Operand.{le}
+use Rattle.byte_lists.specs.LittleEndian.{le}
 use Rattle.x86_grammar.specs.Spells.{opcode_bytes}
 use Rattle.x86_encode.specs.BestOperand.{best_bytes}
 

@@ -6,7 +6,8 @@ use Rattle.x86_types.specs.declared.operand.Address.{Address}
 use Rattle.x86_types.specs.declared.width.Width.TheVariants.{Four}
 use Rattle.x86_types.specs.Numbers.{number_of_reg}
 use Rattle.x86_grammar.specs.Parts.{signed}
-use Rattle.x86_grammar.specs.Operand.{sibs, le}
+use Rattle.byte_lists.specs.LittleEndian.{le}
+use Rattle.x86_grammar.specs.Operand.{sibs}
 
 -- the class of a displacement: 0 where it is zero, 1 where it is a byte with its sign, 2 for the rest
 abbrev pub class_of : ℕ → ℕ

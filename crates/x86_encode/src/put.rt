@@ -1,5 +1,5 @@
 ghost use Rattle.std.specs.Prelude.{◌≡◌, ◌+◌, ◌<◌, ◌≤◌, ◌++◌, ◌∷◌, []};
-ghost use Rattle.x86_grammar.specs.Operand.{le};
+ghost use Rattle.byte_lists.specs.LittleEndian.{le};
 ghost use Rattle.x86_encode.specs.Text.{text};
 
 use crate::text::Text;

@@ -12,8 +12,8 @@ use Rattle.x86_grammar.specs.Table.{entry_of, row_at}
 use Rattle.x86_grammar.specs.Rows.{opcode_of, has_operand}
 use Rattle.x86_grammar.specs.Attributes.{imm_size}
 use Rattle.x86_grammar.specs.Forms.{forms}
-use Rattle.x86_grammar.specs.Operand.{Operand, IsOperand, le, sibs, has_sib, disp_size}
-use Rattle.x86_grammar.specs.Reading.{AreBytes}
+use Rattle.byte_lists.specs.LittleEndian.{le, AreBytes}
+use Rattle.x86_grammar.specs.Operand.{Operand, IsOperand, sibs, has_sib, disp_size}
 use Rattle.x86_grammar.specs.Spells.{is_prefix, opcode_bytes, operand_part, spelling_bytes, Spelling, IsSpelling, Spells}
 use Rattle.x86_grammar.proofs.Again.{row_again}
 use Rattle.x86_grammar.proofs.LittleEndian.{bytes_append}

@@ -18,12 +18,13 @@ use Rattle.x86_grammar.specs.declared.reading.Seen.{Seen}
 use Rattle.x86_grammar.specs.declared.reading.Seen.TheVariants.{Found, Needs, Never}
 use Rattle.x86_grammar.specs.Attributes.{imm_size}
 use Rattle.x86_grammar.specs.Front.{found_front, front}
-use Rattle.x86_grammar.specs.FrontLaws.{AreAllBytes, FrontIsSpelling, FrontEquations, LittleEndianLaws, FrontsAreWorked}
+use Rattle.x86_grammar.specs.FrontLaws.{AreAllBytes, FrontIsSpelling, FrontEquations, FrontsAreWorked}
 use Rattle.x86_grammar.specs.Fronts.{FrontSpells, NoFrontSpells}
 use Rattle.x86_grammar.specs.Meaning.{build}
-use Rattle.x86_grammar.specs.Operand.{le, from_le, rm_of}
+use Rattle.byte_lists.specs.LittleEndian.{le, from_le, AreBytes}
+use Rattle.x86_grammar.specs.Operand.{rm_of}
 use Rattle.x86_grammar.specs.Parts.{signed}
-use Rattle.x86_grammar.specs.Reading.{numbers, found, sib_at, after_m, m_at, plain_at, after_opcode, after_escape, at_opcode, read_from, read, AreBytes}
+use Rattle.x86_grammar.specs.Reading.{numbers, found, sib_at, after_m, m_at, plain_at, after_opcode, after_escape, at_opcode, read_from, read}
 use Rattle.x86_grammar.specs.Spells.{operand_size_in, no_counts, Spells}
 use Rattle.x86_grammar.specs.Table.{entry_of}
 use Rattle.x86_grammar.proofs.Bytes.{spells_some}
@@ -227,20 +228,6 @@ front_equations = record {
   int_cut = refl;
   hlt = λ rest. refl;
   ud2 = ud2_none;
-}
-
-bytes_le : (k v : ℕ) → AreBytes (le k v)
-bytes_le zero v = tt
-bytes_le (suc k) v = (omega arith, bytes_le k (v / 256))
-
-pub little_endian_laws : LittleEndianLaws
-little_endian_laws = record {
-  back_to_number = λ k v h. subst (λ (y : List ℕ). from_le k y ≡ v) (append-nil (le k v)) (from_le-le k v [] h);
-  back_to_bytes = λ k bytes h e. le-from_le k bytes (by_recursion bytes h) (omega arith) ∙ take_all k bytes (omega arith);
-  below = λ k bytes h. from_le-below k bytes (by_recursion bytes h);
-  are_bytes = λ k v. All-from_recursion (λ b. b < 256) (le k v) (bytes_le k v);
-  size = length-le;
-  four = λ a b c d. omega arith;
 }
 
 -- ---- worked fronts

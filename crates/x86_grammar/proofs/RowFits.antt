@@ -1,37 +1,28 @@
 -- What a row means fits, and so does what is spelled.
-use Rattle.std.proofs.Common.{◌≡◌, ℕ, zero, suc, ◌+◌, ◌-◌, ◌^◌, ◌<◌, ◌≤◌, Bool, true, false, cond, not, ltb, eqb, ◌&&◌, ◌||◌, List, [], ◌∷◌, ◌++◌, length, Option, Some, None, inl, lit<, lit≤, refl, sym, subst, ◌∙◌, arith, length-append}
-use Rattle.std.proofs.lemmas.Bool.{false≢true, lt-ltb, ltb-true, cond_both}
-use Rattle.std.specs.Prelude.{IfSome, ◌↔◌, ◌/◌}
-use Rattle.std.specs.List.{AllByRecursion}
-use Rattle.x86_types.specs.Numbers.{size_of, number_of_alu, number_of_shift}
+use Rattle.std.proofs.Common.{◌≡◌, ℕ, ◌+◌, ◌-◌, ◌^◌, ◌<◌, Bool, true, false, cond, ltb, eqb, ◌&&◌, ◌||◌, Option, Some, None, refl, sym, subst, arith}
+use Rattle.std.proofs.lemmas.Bool.{false≢true, lt-ltb, cond_both}
+use Rattle.std.specs.Prelude.{IfSome}
+use Rattle.x86_types.specs.Numbers.{size_of}
 use Rattle.x86_types.specs.declared.operand.Reg.TheVariants as reg
-use Rattle.x86_types.specs.declared.operation.AluOp.{AluOp}
-use Rattle.x86_types.specs.declared.operation.AluOp.TheVariants as alu
-use Rattle.x86_types.specs.declared.operation.ShiftOp.{ShiftOp}
-use Rattle.x86_types.specs.declared.operation.ShiftOp.TheVariants as shift
-use Rattle.x86_types.specs.declared.operation.Count.TheVariants as count
 use Rattle.x86_types.specs.declared.width.Width.{Width}
 use Rattle.x86_types.specs.declared.width.Width.TheVariants.{One, Two, Four}
 use Rattle.x86_types.specs.declared.operand.Rm.{Rm}
 use Rattle.x86_types.specs.declared.operand.Rm.TheVariants as rm
-use Rattle.x86_types.specs.declared.operand.Src.TheVariants as src
 use Rattle.x86_types.specs.declared.instr.Instr.{Instr}
-use Rattle.x86_types.specs.declared.instr.Instr.TheVariants as instr
 use Rattle.x86_grammar.specs.declared.row.Form.{Form}
 use Rattle.x86_grammar.specs.declared.row.Row.{Row}
 use Rattle.x86_grammar.specs.declared.row.Row.TheVariants as row
-use Rattle.x86_grammar.specs.Rows.{has_operand, opcode_of}
-use Rattle.x86_grammar.specs.Attributes.{has_operand_size, imm_size, width_of, wide_size, rep_fits}
+use Rattle.x86_grammar.specs.Rows.{has_operand}
+use Rattle.x86_grammar.specs.Attributes.{imm_size, width_of}
 use Rattle.x86_grammar.specs.Meaning.{build}
-use Rattle.x86_grammar.specs.Forms.{forms, In}
-use Rattle.x86_grammar.specs.Parts.{w_bit, operand_size_of, signed}
-use Rattle.x86_grammar.specs.Operand.{Operand, rm_of, le, sibs, has_sib, disp_size, mod_size, low_of}
-use Rattle.x86_grammar.specs.Spells.{is_prefix, counts_of, prefixes_fit, operand_size_in, opcode_bytes, operand_part, spelling_bytes, Spelling, IsSpelling}
-use Rattle.x86_grammar.specs.Fields.{number_fits, rm_fits, widens, fields_fit, HasSpelling}
-use Rattle.x86_grammar.proofs.Map.{and_left, and_right}
+use Rattle.x86_grammar.specs.Forms.{forms}
+use Rattle.x86_grammar.specs.Parts.{w_bit, signed}
+use Rattle.x86_grammar.specs.Operand.{rm_of}
+use Rattle.x86_grammar.specs.Spells.{Spelling, IsSpelling}
+use Rattle.x86_grammar.specs.Fields.{number_fits, rm_fits, widens, fields_fit}
+use Rattle.x86_grammar.proofs.Map.{and_right}
 use Rattle.x86_grammar.proofs.Means.{Means, mean_of, forms_mean, rm_or, is_none}
-use Rattle.x86_grammar.proofs.LittleEndian.{length-le}
-use Rattle.x86_grammar.proofs.Operands.{both, reg_low, rm_is_fit, Shown, rm_shown}
+use Rattle.x86_grammar.proofs.Operands.{both, rm_is_fit}
 
 num : (w : Width) (v : ℕ) → v < 256 ^ size_of w → number_fits w v ≡ true
 num w v h = lt-ltb _ _ h

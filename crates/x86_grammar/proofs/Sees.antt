@@ -18,7 +18,8 @@ use Rattle.x86_grammar.specs.Table.{member_of, row_in, shift_row, first_row, uni
 use Rattle.x86_grammar.specs.Rows.{has_operand}
 use Rattle.x86_grammar.specs.Attributes.{imm_size}
 use Rattle.x86_grammar.specs.Meaning.{build}
-use Rattle.x86_grammar.specs.Operand.{le, from_le, rm_of, has_sib, disp_size, mod_size, sibs, low_of}
+use Rattle.byte_lists.specs.LittleEndian.{le, from_le}
+use Rattle.x86_grammar.specs.Operand.{rm_of, has_sib, disp_size, mod_size, sibs, low_of}
 use Rattle.x86_grammar.specs.Spells.{operand_size_in, prefixes_fit}
 use Rattle.x86_grammar.specs.Reading.{AsksWithin, numbers, sib_at, after_m, of_row, m_at, plain_at, after_opcode, least_disp, easiest}
 use Rattle.x86_grammar.proofs.LittleEndian.{length-le, from_le-le}

@@ -9,8 +9,9 @@ use Rattle.x86_grammar.specs.declared.row.Row.TheVariants as row
 use Rattle.x86_grammar.specs.declared.row.Counts.{Counts}
 use Rattle.x86_grammar.specs.declared.reading.Seen.TheVariants.{Found, Needs}
 use Rattle.x86_grammar.specs.Attributes.{has_operand_size, imm_size, rep_fits, any_operand_sizes, any_segments, can_hint}
-use Rattle.x86_grammar.specs.Operand.{le, rm_of}
-use Rattle.x86_grammar.specs.Reading.{AreBytes, Gave, SpelledWithMore, needs, after_opcode, after_escape, at_opcode, read_from, read}
+use Rattle.byte_lists.specs.LittleEndian.{le, AreBytes}
+use Rattle.x86_grammar.specs.Operand.{rm_of}
+use Rattle.x86_grammar.specs.Reading.{Gave, SpelledWithMore, needs, after_opcode, after_escape, at_opcode, read_from, read}
 use Rattle.x86_grammar.specs.Rows.{opcode_of, has_operand}
 use Rattle.x86_grammar.specs.Spells.{is_prefix, more, no_counts, counts_of, prefixes_fit, operand_size_in, opcode_bytes, operand_part, Spelling, Spells}
 use Rattle.x86_grammar.specs.Table.{entry_of}

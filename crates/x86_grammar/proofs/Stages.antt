@@ -10,7 +10,8 @@ use Rattle.x86_grammar.specs.declared.row.Entry.TheVariants as entry
 use Rattle.x86_grammar.specs.declared.row.Group.{Group}
 use Rattle.x86_grammar.specs.declared.row.Group.TheVariants as group
 use Rattle.x86_grammar.specs.declared.reading.Seen.TheVariants.{Found, Needs}
-use Rattle.x86_grammar.specs.Operand.{le, has_sib, disp_size, mod_size, sibs, low_of}
+use Rattle.byte_lists.specs.LittleEndian.{le}
+use Rattle.x86_grammar.specs.Operand.{has_sib, disp_size, mod_size, sibs, low_of}
 use Rattle.x86_grammar.specs.Reading.{numbers, sib_at, after_m, of_row, m_at, plain_at, after_opcode, least_disp, easiest}
 use Rattle.x86_grammar.specs.Rows.{has_operand}
 use Rattle.x86_grammar.specs.Spells.{operand_size_in, prefixes_fit}

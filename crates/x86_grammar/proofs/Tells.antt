@@ -16,8 +16,9 @@ use Rattle.x86_grammar.specs.declared.reading.Seen.{Seen}
 use Rattle.x86_grammar.specs.declared.reading.Seen.TheVariants.{Found, Needs, Never}
 use Rattle.x86_grammar.specs.Attributes.{imm_size, width_of}
 use Rattle.x86_grammar.specs.Meaning.{build, lea}
-use Rattle.x86_grammar.specs.Operand.{le, from_le, rm_of, address}
-use Rattle.x86_grammar.specs.Reading.{AreBytes, found, numbers}
+use Rattle.byte_lists.specs.LittleEndian.{le, from_le, AreBytes}
+use Rattle.x86_grammar.specs.Operand.{rm_of, address}
+use Rattle.x86_grammar.specs.Reading.{found, numbers}
 use Rattle.x86_grammar.specs.Rows.{has_operand}
 use Rattle.x86_grammar.specs.Spells.{operand_size_in}
 use Rattle.x86_grammar.proofs.LittleEndian.{bytes_drop, bytes_append, from_le-below, le-from_le}

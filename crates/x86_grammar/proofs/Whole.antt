@@ -16,7 +16,8 @@ use Rattle.x86_grammar.specs.Rows.{bit, opcode_of, has_operand}
 use Rattle.x86_grammar.specs.Attributes.{imm_size}
 use Rattle.x86_grammar.specs.Meaning.{build}
 use Rattle.x86_grammar.specs.Forms.{forms}
-use Rattle.x86_grammar.specs.Operand.{le, has_sib, disp_size, rm_of, sibs, operand_bytes}
+use Rattle.byte_lists.specs.LittleEndian.{le}
+use Rattle.x86_grammar.specs.Operand.{has_sib, disp_size, rm_of, sibs, operand_bytes}
 use Rattle.x86_grammar.specs.Spells.{no_counts, counts_of, operand_size_in, opcode_bytes, operand_part, spelling_bytes, Spelling, IsSpelling, Spells}
 use Rattle.x86_grammar.specs.Reading.{read, read_from, AsksWithin}
 use Rattle.x86_grammar.proofs.Again.{row_again}

@@ -11,7 +11,7 @@ use Rattle.x86_types.specs.declared.width.Width.TheVariants.{One, Two, Four}
 use Rattle.x86_types.specs.declared.instr.Instr.{Instr}
 use Rattle.x86_types.specs.declared.instr.Instr.TheVariants as instr
 use Rattle.x86_types.specs.Numbers.{number_of_reg}
-use Rattle.x86_grammar.specs.Operand.{le, from_le}
+use Rattle.byte_lists.specs.LittleEndian.{from_le}
 use Rattle.x86_grammar.specs.Parts.{signed}
 use Rattle.x86_grammar.specs.Spells.{Spells}
 use Rattle.x86_grammar.specs.Fronts.{FrontSpells, NoFrontSpells}
@@ -62,16 +62,6 @@ pub record FrontEquations : Type 0 where
   -- F4 and 0F 0B (UD2) are not in the list
   pub hlt : (rest : List ℕ) → front (0xF4 ∷ rest) ≡ None
   pub ud2 : (rest : List ℕ) → front (0x0F ∷ 0x0B ∷ rest) ≡ None
-
--- Numbers as bytes, lowest first, and back.
-pub record LittleEndianLaws : Type 0 where
-  pub back_to_number : (k v : ℕ) → v < 0x100 ^ k → from_le k (le k v) ≡ v
-  pub back_to_bytes : (k : ℕ) (bytes : List ℕ) → AreAllBytes bytes → length bytes ≡ k → le k (from_le k bytes) ≡ bytes
-  pub below : (k : ℕ) (bytes : List ℕ) → AreAllBytes bytes → from_le k bytes < 0x100 ^ k
-  pub are_bytes : (k v : ℕ) → AreAllBytes (le k v)
-  pub size : (k v : ℕ) → length (le k v) ≡ k
-  -- four bytes as a sum
-  pub four : (a b c d : ℕ) → from_le 4 (a ∷ b ∷ c ∷ d ∷ []) ≡ a + 0x100 * b + 0x10000 * c + 0x1000000 * d
 
 -- Worked fronts: bytes with the instruction and its length, or nothing.
 abbrev pub worked_fronts : List (List ℕ × Option (Instr × ℕ))

@@ -1,5 +1,4 @@
--- ModRM, SIB and the displacement, and numbers as bytes: Intel SDM volume 2, sections 2.1.3 and 2.1.5,
--- tables 2-2 and 2-3.
+-- ModRM, SIB and the displacement: Intel SDM volume 2, sections 2.1.3 and 2.1.5, tables 2-2 and 2-3.
 use Rattle.std.specs.Prelude.{◌≡◌, ℕ, zero, suc, ◌+◌, ◌*◌, ◌/◌, ◌%◌, ◌^◌, ◌<◌, Bool, true, false, ◌&&◌, if◌then◌else◌, nat_lt, ◌==◌, List, [], ◌∷◌, ◌++◌, Option, Some, None}
 use Rattle.x86_types.specs.declared.operand.Reg.{Reg}
 use Rattle.x86_types.specs.declared.operand.Address.{Address}
@@ -7,18 +6,8 @@ use Rattle.x86_types.specs.declared.operand.Rm.{Rm}
 use Rattle.x86_types.specs.declared.operand.Rm.TheVariants as rm
 use Rattle.x86_types.specs.declared.width.Width.TheVariants.{Four}
 use Rattle.x86_types.specs.Numbers.{reg_of}
+use Rattle.byte_lists.specs.LittleEndian.{le}
 use Rattle.x86_grammar.specs.Parts.{signed}
-
--- a number in that many bytes, the lowest first
-abbrev pub le : ℕ → ℕ → List ℕ
-le zero v = []
-le (suc k) v = v % 256 ∷ le k (v / 256)
-
--- the number in the first bytes of that many, the lowest first
-abbrev pub from_le : ℕ → List ℕ → ℕ
-from_le zero bytes = 0
-from_le (suc k) [] = 0
-from_le (suc k) (b ∷ bytes) = b + 256 * from_le k bytes
 
 -- whether SIB stands behind that ModRM: mod isn't 3, and rm is 4
 abbrev pub has_sib : ℕ → Bool

@@ -1,7 +1,6 @@
 -- A spelling read from left to right, by the opcode map: how a reader of bytes can go, stage by stage. What
 -- it comes to is no matter of these words: `ReadsRight` says it by the relation of spellings.
 use Rattle.std.specs.Prelude.{◌≡◌, ℕ, zero, suc, ◌+◌, ◌-◌, ◌/◌, ◌%◌, ◌<◌, ◌≤◌, true, false, nat_lt, ◌==◌, if◌then◌else◌, List, [], ◌∷◌, ◌++◌, length, drop, Option, Some, None}
-use Rattle.std.specs.List.{AllByRecursion}
 use Rattle.x86_types.specs.declared.instr.Instr.{Instr}
 use Rattle.x86_types.specs.declared.operation.ShiftOp.TheVariants.{Rol}
 use Rattle.x86_grammar.specs.declared.row.Row.{Row}
@@ -15,7 +14,8 @@ use Rattle.x86_grammar.specs.declared.reading.Seen.{Seen}
 use Rattle.x86_grammar.specs.declared.reading.Seen.TheVariants.{Found, Needs, Never}
 use Rattle.x86_grammar.specs.Attributes.{imm_size}
 use Rattle.x86_grammar.specs.Meaning.{build}
-use Rattle.x86_grammar.specs.Operand.{has_sib, disp_size, mod_size, rm_of, from_le}
+use Rattle.byte_lists.specs.LittleEndian.{from_le, AreBytes}
+use Rattle.x86_grammar.specs.Operand.{has_sib, disp_size, mod_size, rm_of}
 use Rattle.x86_grammar.specs.Rows.{has_operand}
 use Rattle.x86_grammar.specs.Spells.{Spells, prefixes_fit, operand_size_in, is_prefix, more, no_counts}
 use Rattle.x86_grammar.specs.Table.{entry_of, row_in}
@@ -131,10 +131,6 @@ abbrev pub read : List ℕ → Seen
 read bytes = read_from no_counts bytes
 
 -- ---- what it comes to
-
--- each number is below 256
-abbrev pub AreBytes : List ℕ → Type 0
-AreBytes bytes = AllByRecursion (λ b. b < 256) bytes
 
 -- a front spells the instruction, unless it is too long for that, and so many bytes are left
 pub record Gave (bytes : List ℕ) (i : Instr) (left : ℕ) : Type 0 where

@@ -9,7 +9,8 @@ use Rattle.x86_grammar.specs.declared.row.Prefixes.{Prefixes}
 use Rattle.x86_grammar.specs.Rows.{bit, attributes_of, opcode_of, has_operand}
 use Rattle.x86_grammar.specs.Attributes.{f3_fits, imm_size}
 use Rattle.x86_grammar.specs.Forms.{In, forms}
-use Rattle.x86_grammar.specs.Operand.{Operand, IsOperand, operand_bytes, rm_of, le}
+use Rattle.byte_lists.specs.LittleEndian.{le}
+use Rattle.x86_grammar.specs.Operand.{Operand, IsOperand, operand_bytes, rm_of}
 
 -- 66, 2E, 3E and F3
 abbrev pub is_prefix : ℕ → Bool

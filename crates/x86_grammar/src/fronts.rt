@@ -1,10 +1,9 @@
-ghost use Rattle.x86_grammar.specs.FrontLaws.{FrontEquations, FrontIsSpelling, FrontsAreWorked, LittleEndianLaws};
+ghost use Rattle.x86_grammar.specs.FrontLaws.{FrontEquations, FrontIsSpelling, FrontsAreWorked};
 
 /// The computed front of a list of bytes is the one that spells an instruction. Beside that its values
-/// at a few opcodes with any bytes behind them, numbers as bytes, and worked rows.
+/// at a few opcodes with any bytes behind them, and worked rows.
 pub fn front_laws()
     ensures spelling { FrontIsSpelling }
     ensures equations { FrontEquations }
-    ensures numbers { LittleEndianLaws }
     ensures worked { FrontsAreWorked }
 {}

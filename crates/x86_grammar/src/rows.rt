@@ -37,8 +37,8 @@ fn cond_bits(cond: Cond) -> u16
     cond_number(cond) as u16
 }
 
-fn known(operand_size: bool, any_66: bool, any_2e: bool, one_3e: bool, f3: F3) -> Prefixes
-    ensures { result ≡ spec.known operand_size any_66 any_2e one_3e f3 }
+fn known_prefixes(operand_size: bool, any_66: bool, any_2e: bool, one_3e: bool, f3: F3) -> Prefixes
+    ensures { result ≡ spec.known_prefixes operand_size any_66 any_2e one_3e f3 }
 {
     Prefixes {
         operand_size,
@@ -52,49 +52,49 @@ fn known(operand_size: bool, any_66: bool, any_2e: bool, one_3e: bool, f3: F3) -
 fn no_prefix() -> Prefixes
     ensures { result ≡ spec.no_prefix }
 {
-    known(false, false, false, false, F3::Never)
+    known_prefixes(false, false, false, false, F3::Never)
 }
 
 fn sized(w: bool) -> Prefixes
     ensures { result ≡ spec.sized w }
 {
-    known(w, false, false, false, F3::Never)
+    known_prefixes(w, false, false, false, F3::Never)
 }
 
 fn sized_2e() -> Prefixes
     ensures { result ≡ spec.sized_2e }
 {
-    known(true, false, true, false, F3::Never)
+    known_prefixes(true, false, true, false, F3::Never)
 }
 
 fn any_66() -> Prefixes
     ensures { result ≡ spec.any_66 }
 {
-    known(false, true, false, false, F3::Never)
+    known_prefixes(false, true, false, false, F3::Never)
 }
 
 fn any_66_2e() -> Prefixes
     ensures { result ≡ spec.any_66_2e }
 {
-    known(false, true, true, false, F3::Never)
+    known_prefixes(false, true, true, false, F3::Never)
 }
 
 fn one_3e() -> Prefixes
     ensures { result ≡ spec.one_3e }
 {
-    known(false, false, false, true, F3::Never)
+    known_prefixes(false, false, false, true, F3::Never)
 }
 
 fn may_f3(w: bool) -> Prefixes
     ensures { result ≡ spec.may_f3 w }
 {
-    known(w, false, false, false, F3::May)
+    known_prefixes(w, false, false, false, F3::May)
 }
 
 fn must_f3() -> Prefixes
     ensures { result ≡ spec.must_f3 }
 {
-    known(false, false, false, false, F3::Must)
+    known_prefixes(false, false, false, false, F3::Must)
 }
 
 fn not_eax(reg: Reg) -> RegField

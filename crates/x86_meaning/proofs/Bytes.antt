@@ -11,7 +11,7 @@ use Rattle.traces.specs.Trace.{Label, Go}
 use Rattle.image.specs.declared.image.Image.{Image}
 use Rattle.memory.specs.Memory.{Memory, wrapped, Stored, put_all, store_all, bytes_at, memory_of, HasBytes}
 use Rattle.memory.specs.MemoryLaws.{MemoryLaws}
-use Rattle.memory.specs.CallLaws.{CallLaws, StoresBytes, IsKept}
+use Rattle.memory.specs.CallLaws.{CallLaws, StoresBytes, CallIsKept}
 use Rattle.memory.specs.SystemCall.{Called, Ends, Gives, system_call}
 use Rattle.x86_types.specs.declared.instr.Instr.{Instr}
 use Rattle.x86_types.specs.declared.instr.Instr.TheVariants as instr
@@ -82,7 +82,7 @@ module _ (words : WordLaws) (laws : MemoryLaws) where
   settled_fits : (ls : List Label) (s : State) → IsOfBytes s → Reaches IsOfBytes (settled ls s)
   settled_fits ls s h = settled_holds (Reaches IsOfBytes) ls s tt (λ esp e. record { registers = h.registers; memory = laws.forget_has_bytes esp s.memory h.memory; left = h.left })
 
-  called_fits : (x : Called) (s : State) → IsKept x → IsOfBytes s → Reaches IsOfBytes (after_call x s)
+  called_fits : (x : Called) (s : State) → CallIsKept x → IsOfBytes s → Reaches IsOfBytes (after_call x s)
   called_fits (Ends e) s k h = tt
   called_fits (Gives ls result stores left) s k h = settled_fits ls (record { cpu = with_result result s.cpu; eip = s.eip; memory = store_all stores s.memory; left = left }) (record { registers = set_fits 0 (word_of result) s.cpu.regs (words.word_of_bytes result) h.registers; memory = stores_fit stores s.memory k.0 h.memory; left = k.1 })
 

@@ -37,18 +37,18 @@ address_sum a (Some base) (Some index) = Some ((base + index * a.scale + a.disp)
 address_sum a _ _ = None
 
 -- base, index times scale and displacement, modulo 2^32; none where a byte of these registers is unspecified
-abbrev pub address : Naming → Registers → Address → Option ℕ
-address v regs a = address_sum a (address_part v regs a.base) (address_part v regs a.index)
+abbrev pub effective_address : Naming → Registers → Address → Option ℕ
+effective_address v regs a = address_sum a (address_part v regs a.base) (address_part v regs a.index)
 
 -- the operand of the rm field
 abbrev pub location_of : Naming → Registers → Width → Rm → Option Location
 location_of v regs w (rm.Reg r) = Some (field v w r)
-location_of v regs w (rm.Mem a) = option_map InMemory (address v regs a)
+location_of v regs w (rm.Mem a) = option_map InMemory (effective_address v regs a)
 
 -- an operand that is read
 abbrev pub source_of : Naming → Registers → Width → Src → Option Location
 source_of v regs w (src.Reg r) = Some (field v w r)
-source_of v regs w (src.Mem a) = option_map InMemory (address v regs a)
+source_of v regs w (src.Mem a) = option_map InMemory (effective_address v regs a)
 source_of v regs w (src.Imm n) = Some (Immediate n)
 
 -- an access of memory, of so many bytes from an address on

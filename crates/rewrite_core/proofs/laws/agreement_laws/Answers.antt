@@ -13,7 +13,7 @@ laws c = record {
   programs = c.program_laws.ensures;
   spelling = c.front_laws.ensures.spelling;
   equations = c.front_laws.ensures.equations;
-  numbers = c.front_laws.ensures.numbers;
+  numbers = c.little_endian_laws.ensures;
   fields = c.spelled_fields_fit.ensures.fields;
 }
 

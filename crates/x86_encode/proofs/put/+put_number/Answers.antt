@@ -1,5 +1,5 @@
 use Rattle.std.proofs.Common.{◌≡◌, suc, ◌-◌, ◌/◌, ◌%◌, [], ◌∷◌, ◌++◌, ◌∙◌, ap, append_assoc, arith}
-use Rattle.x86_grammar.specs.Operand.{le}
+use Rattle.byte_lists.specs.LittleEndian.{le}
 use Rattle.x86_encode.specs.Text.{text}
 use Rattle.x86_encode.proofs.put.+put_number.Goals as goal
 
