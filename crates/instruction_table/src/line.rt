@@ -26,9 +26,9 @@ fn digit_of(character: u8) -> Option<u8>
     ensures small { IfSome result (λ digit. digit < 16) }
 {
     match character {
-        48..=57 => Some(character - 48),
-        65..=70 => Some(character - 55),
-        97..=102 => Some(character - 87),
+        0x30..=0x39 => Some(character - 0x30),
+        0x41..=0x46 => Some(character - 0x37),
+        0x61..=0x66 => Some(character - 0x57),
         _ => None,
     }
 }

@@ -10,6 +10,7 @@ use Rattle.linear_sweep.specs.declared.linear.Counts.{Counts}
 abbrev pub counted_bytes : Counts → ℕ
 counted_bytes c = c.spelled + (c.outside + c.short)
 
+-- nothing is counted
 abbrev pub no_counts : Counts
 no_counts = record { instructions = 0; spelled = 0; outside = 0; short = 0 }
 

@@ -7,10 +7,12 @@ use Rattle.x86_grammar.specs.Reading.{read}
 use Rattle.x86_decode.specs.declared.decoding.Decoded.{Decoded}
 use Rattle.x86_decode.specs.declared.decoding.Decoded.TheVariants.{One, Outside, Short}
 
+-- the answer to what a reader of so many bytes sees
 abbrev pub judge : ℕ → Seen → Decoded
 judge len (Found i left) = One i (len - left)
 judge len (Needs k) = if nat_le (len + k) 15 then Short else Outside
 judge len Never = Outside
 
+-- what the bytes begin with
 unfoldable pub decoded : List ℕ → Decoded
 decoded bytes = judge (length (take 15 bytes)) (read (take 15 bytes))

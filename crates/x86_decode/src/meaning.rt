@@ -113,33 +113,55 @@ fn cmov(cond: Cond, width: Width, to: Reg, from: Rm) -> Option<Instr>
 }
 
 /// What the parts of a spelling mean: the row, whether 66 makes width Two, whether F3 stands, ModRM's
-/// middle field, the operand, and the number at the end. None where they mean nothing.
-pub(crate) fn build(row: Row, half: bool, rep: bool, middle: u8, rm: Rm, imm: u32) -> Option<Instr>
-    requires fits { imm < 256 ^ imm_size row half }
-    ensures { result ≡ spec.build row half rep middle rm imm }
+/// reg field, the operand, and the immediate. None where they mean nothing.
+pub(crate) fn build(
+    row: Row,
+    operand_size: bool,
+    rep: bool,
+    reg_field: u8,
+    rm: Rm,
+    imm: u32,
+) -> Option<Instr>
+    requires fits { imm < 256 ^ imm_size row operand_size }
+    ensures { result ≡ spec.build row operand_size rep reg_field rm imm }
 {
-    let wide = width_of(true, half);
-    let reg = reg_at(middle);
+    let wide = width_of(true, operand_size);
+    let reg = reg_at(reg_field);
     match row {
-        Row::AluToRm(op, full) => alu(op, width_of(full, half), rm, Src::Reg(reg)),
-        Row::AluToReg(op, full) => alu(op, width_of(full, half), Rm::Reg(reg), src_of(rm)),
-        Row::AluAcc(op, full) => alu(op, width_of(full, half), Rm::Reg(Reg::Eax), Src::Imm(imm)),
-        Row::AluImm(full) => alu(alu_at(middle), width_of(full, half), rm, Src::Imm(imm)),
-        Row::AluByte => alu(alu_at(middle), wide, rm, Src::Imm(signed(wide, imm as u8))),
-        Row::TestRm(full) => test(width_of(full, half), rm, Src::Reg(reg)),
-        Row::TestAcc(full) => test(width_of(full, half), Rm::Reg(Reg::Eax), Src::Imm(imm)),
-        Row::TestImm(full) => test(width_of(full, half), rm, Src::Imm(imm)),
-        Row::MovToRm(full) => mov(width_of(full, half), rm, Src::Reg(reg)),
-        Row::MovToReg(full) => mov(width_of(full, half), Rm::Reg(reg), src_of(rm)),
-        Row::MovReg(to, full) => mov(width_of(full, half), Rm::Reg(to), Src::Imm(imm)),
-        Row::MovImm(full) => mov(width_of(full, half), rm, Src::Imm(imm)),
-        Row::MovLoad(full) => mov(
-            width_of(full, half),
+        Row::AluToRm(op, w) => alu(op, width_of(w, operand_size), rm, Src::Reg(reg)),
+        Row::AluToReg(op, w) => alu(op, width_of(w, operand_size), Rm::Reg(reg), src_of(rm)),
+        Row::AluAcc(op, w) => alu(
+            op,
+            width_of(w, operand_size),
+            Rm::Reg(Reg::Eax),
+            Src::Imm(imm),
+        ),
+        Row::AluImm(w) => alu(
+            alu_at(reg_field),
+            width_of(w, operand_size),
+            rm,
+            Src::Imm(imm),
+        ),
+        Row::AluByte => alu(
+            alu_at(reg_field),
+            wide,
+            rm,
+            Src::Imm(signed(wide, imm as u8)),
+        ),
+        Row::TestRm(w) => test(width_of(w, operand_size), rm, Src::Reg(reg)),
+        Row::TestAcc(w) => test(width_of(w, operand_size), Rm::Reg(Reg::Eax), Src::Imm(imm)),
+        Row::TestImm(w) => test(width_of(w, operand_size), rm, Src::Imm(imm)),
+        Row::MovToRm(w) => mov(width_of(w, operand_size), rm, Src::Reg(reg)),
+        Row::MovToReg(w) => mov(width_of(w, operand_size), Rm::Reg(reg), src_of(rm)),
+        Row::MovReg(to, w) => mov(width_of(w, operand_size), Rm::Reg(to), Src::Imm(imm)),
+        Row::MovImm(w) => mov(width_of(w, operand_size), rm, Src::Imm(imm)),
+        Row::MovLoad(w) => mov(
+            width_of(w, operand_size),
             Rm::Reg(Reg::Eax),
             Src::Mem(number_alone(imm)),
         ),
-        Row::MovStore(full) => mov(
-            width_of(full, half),
+        Row::MovStore(w) => mov(
+            width_of(w, operand_size),
             Rm::Mem(number_alone(imm)),
             Src::Reg(Reg::Eax),
         ),
@@ -152,36 +174,36 @@ pub(crate) fn build(row: Row, half: bool, rep: bool, middle: u8, rm: Rm, imm: u3
             width: wide,
             to: Rm::Reg(to),
         }),
-        Row::Inc(full) => Some(Instr::Inc {
-            width: width_of(full, half),
+        Row::Inc(w) => Some(Instr::Inc {
+            width: width_of(w, operand_size),
             to: rm,
         }),
-        Row::Dec(full) => Some(Instr::Dec {
-            width: width_of(full, half),
+        Row::Dec(w) => Some(Instr::Dec {
+            width: width_of(w, operand_size),
             to: rm,
         }),
-        Row::Not(full) => Some(Instr::Not {
-            width: width_of(full, half),
+        Row::Not(w) => Some(Instr::Not {
+            width: width_of(w, operand_size),
             to: rm,
         }),
-        Row::Neg(full) => Some(Instr::Neg {
-            width: width_of(full, half),
+        Row::Neg(w) => Some(Instr::Neg {
+            width: width_of(w, operand_size),
             to: rm,
         }),
-        Row::Mul(full) => Some(Instr::Mul {
-            width: width_of(full, half),
+        Row::Mul(w) => Some(Instr::Mul {
+            width: width_of(w, operand_size),
             from: rm,
         }),
-        Row::ImulWide(full) => Some(Instr::ImulWide {
-            width: width_of(full, half),
+        Row::ImulWide(w) => Some(Instr::ImulWide {
+            width: width_of(w, operand_size),
             from: rm,
         }),
-        Row::Div(full) => Some(Instr::Div {
-            width: width_of(full, half),
+        Row::Div(w) => Some(Instr::Div {
+            width: width_of(w, operand_size),
             from: rm,
         }),
-        Row::Idiv(full) => Some(Instr::Idiv {
-            width: width_of(full, half),
+        Row::Idiv(w) => Some(Instr::Idiv {
+            width: width_of(w, operand_size),
             from: rm,
         }),
         Row::Imul => Some(Instr::Imul {
@@ -191,9 +213,9 @@ pub(crate) fn build(row: Row, half: bool, rep: bool, middle: u8, rm: Rm, imm: u3
         }),
         Row::ImulWord => imul_by(wide, reg, rm, imm),
         Row::ImulByte => imul_by(wide, reg, rm, signed(wide, imm as u8)),
-        Row::ShiftImm(op, full) => shift(op, width_of(full, half), rm, Count::Imm(imm as u8)),
-        Row::ShiftOne(op, full) => shift(op, width_of(full, half), rm, Count::Imm(1)),
-        Row::ShiftCl(op, full) => shift(op, width_of(full, half), rm, Count::Cl),
+        Row::ShiftImm(op, w) => shift(op, width_of(w, operand_size), rm, Count::Imm(imm as u8)),
+        Row::ShiftOne(op, w) => shift(op, width_of(w, operand_size), rm, Count::Imm(1)),
+        Row::ShiftCl(op, w) => shift(op, width_of(w, operand_size), rm, Count::Cl),
         Row::ShldImm => Some(Instr::Shld {
             to: rm,
             from: reg,
@@ -226,8 +248,8 @@ pub(crate) fn build(row: Row, half: bool, rep: bool, middle: u8, rm: Rm, imm: u3
         Row::Push => Some(Instr::Push { from: src_of(rm) }),
         Row::PopReg(to) => Some(Instr::Pop { to: Rm::Reg(to) }),
         Row::Pop => Some(Instr::Pop { to: rm }),
-        Row::Xchg(full) => Some(Instr::Xchg {
-            width: width_of(full, half),
+        Row::Xchg(w) => Some(Instr::Xchg {
+            width: width_of(w, operand_size),
             left: rm,
             right: reg,
         }),
@@ -255,12 +277,12 @@ pub(crate) fn build(row: Row, half: bool, rep: bool, middle: u8, rm: Rm, imm: u3
             from: rm,
         }),
         Row::BswapReg(to) => Some(Instr::Bswap { to }),
-        Row::Movs(full) => Some(Instr::Movs {
-            width: width_of(full, half),
+        Row::Movs(w) => Some(Instr::Movs {
+            width: width_of(w, operand_size),
             repeat: rep,
         }),
-        Row::Stos(full) => Some(Instr::Stos {
-            width: width_of(full, half),
+        Row::Stos(w) => Some(Instr::Stos {
+            width: width_of(w, operand_size),
             repeat: rep,
         }),
         Row::JmpShort => Some(Instr::Jmp {
@@ -278,7 +300,13 @@ pub(crate) fn build(row: Row, half: bool, rep: bool, middle: u8, rm: Rm, imm: u3
         Row::Ret => Some(Instr::Ret { drop: 0 }),
         Row::RetDrop => Some(Instr::Ret { drop: imm as u16 }),
         Row::Leave => Some(Instr::Leave),
-        Row::Int80 => { if imm == 0x80 { Some(Instr::Int80) } else { None } }
+        Row::Int80 => {
+            if imm == 0x80 {
+                Some(Instr::Int80)
+            } else {
+                None
+            }
+        }
         Row::Cld => Some(Instr::Cld),
         Row::Nop => Some(Instr::Nop),
         Row::NopLong => Some(Instr::Nop),

@@ -8,8 +8,8 @@ ghost use Rattle.x86_grammar.specs.Table as table;
 use crate::meaning::build;
 use crate::operand::{disp_size, has_sib, mod_size, rm_of};
 use x86_grammar::{
-    Attributes, Counts, Entry, Group, Row, Seen, attributes_of, entry_at, half_in, imm_size, known_fit,
-    known_half, member, prefixes_fit, size_in,
+    Attributes, Counts, Entry, Group, Row, Seen, attributes_of, entry_at, imm_size, known_fit,
+    known_operand_size, member, operand_size_in, prefixes_fit, size_in,
 };
 use x86_types::ShiftOp;
 
@@ -32,16 +32,24 @@ fn number(size: u8, bytes: &[u8]) -> u32
     }
 }
 
-/// The displacement of `size` bytes and the number at the end, and what the parts mean together.
+/// The displacement of `size` bytes and the immediate, and what the parts mean together.
 #[tactic(auto, unfolding(x86_grammar::specs::Reading::numbers))]
-fn numbers(row: Row, known: Attributes, counts: Counts, m: u8, sib: u8, size: u8, bytes: &[u8]) -> Seen
+fn numbers(
+    row: Row,
+    known: Attributes,
+    counts: Counts,
+    m: u8,
+    sib: u8,
+    size: u8,
+    bytes: &[u8],
+) -> Seen
     requires known { known ≡ attributes_of row }
     requires size { size ≡ disp_size m sib }
     requires few { size ≤ 4 }
     ensures { result ≡ reading.numbers row counts m sib size bytes.now }
 {
-    let half = known_half(known.prefixes, counts);
-    let imm_bytes = size_in(known.imm, half);
+    let operand_size = known_operand_size(known.prefixes, counts);
+    let imm_bytes = size_in(known.imm, operand_size);
     let all = size as usize + imm_bytes as usize;
     if bytes.len() < all {
         return Seen::Needs(all - bytes.len());
@@ -50,7 +58,7 @@ fn numbers(row: Row, known: Attributes, counts: Counts, m: u8, sib: u8, size: u8
     let imm = number(imm_bytes, &bytes[size as usize..]);
     match build(
         row,
-        half,
+        operand_size,
         counts.repeats == 1,
         m / 8 % 8,
         rm_of(m, sib, disp),
@@ -76,7 +84,7 @@ fn sib_at(row: Row, known: Attributes, counts: Counts, m: u8, bytes: &[u8]) -> S
 {
     match bytes {
         [] => {
-            let imm_bytes = size_in(known.imm, known_half(known.prefixes, counts));
+            let imm_bytes = size_in(known.imm, known_operand_size(known.prefixes, counts));
             Seen::Needs(1 + (least_disp(m) as usize + imm_bytes as usize))
         }
         [sib, rest @ ..] => numbers(row, known, counts, m, *sib, disp_size(m, *sib), rest),
@@ -98,13 +106,13 @@ fn after_m(row: Row, counts: Counts, m: u8, bytes: &[u8]) -> Seen
     }
 }
 
-fn row_in(entry: Entry, middle: u8) -> Option<Row>
-    ensures { result ≡ table.row_in entry middle }
+fn row_in(entry: Entry, reg_field: u8) -> Option<Row>
+    ensures { result ≡ table.row_in entry reg_field }
 {
     match entry {
         Entry::Nothing => None,
         Entry::One(row) => Some(row),
-        Entry::By(group) => member(group, middle),
+        Entry::By(group) => member(group, reg_field),
     }
 }
 
@@ -115,7 +123,7 @@ fn m_at(entry: Entry, easy: Row, counts: Counts, bytes: &[u8]) -> Seen
     match bytes {
         [] => {
             if prefixes_fit(easy, counts) {
-                Seen::Needs(1 + imm_size(easy, half_in(easy, counts)) as usize)
+                Seen::Needs(1 + imm_size(easy, operand_size_in(easy, counts)) as usize)
             } else {
                 Seen::Never
             }
@@ -145,8 +153,8 @@ fn easiest(group: Group, counts: Counts) -> Row
 {
     match group {
         Group::Pops => Row::Pop,
-        Group::Moves(full) => Row::MovImm(full),
-        Group::Units(full) => Row::Not(full),
+        Group::Moves(w) => Row::MovImm(w),
+        Group::Units(w) => Row::Not(w),
         Group::Steps(false) => Row::Inc(false),
         Group::Steps(true) => {
             if counts.hints == 0 {
@@ -155,9 +163,9 @@ fn easiest(group: Group, counts: Counts) -> Row
                 Row::CallTo
             }
         }
-        Group::ShiftsImm(full) => Row::ShiftImm(ShiftOp::Rol, full),
-        Group::ShiftsOne(full) => Row::ShiftOne(ShiftOp::Rol, full),
-        Group::ShiftsCl(full) => Row::ShiftCl(ShiftOp::Rol, full),
+        Group::ShiftsImm(w) => Row::ShiftImm(ShiftOp::Rol, w),
+        Group::ShiftsOne(w) => Row::ShiftOne(ShiftOp::Rol, w),
+        Group::ShiftsCl(w) => Row::ShiftCl(ShiftOp::Rol, w),
         Group::Sets(cond) => Row::Setcc(cond),
         Group::Nops => Row::NopLong,
     }
@@ -186,7 +194,12 @@ fn after_opcode(entry: Entry, counts: Counts, bytes: &[u8]) -> Seen
 fn least_opcode(counts: Counts) -> Option<usize>
     ensures { result ≡ reading.least_opcode counts }
 {
-    match (counts.halves, counts.segments, counts.hints, counts.repeats) {
+    match (
+        counts.operand_sizes,
+        counts.segments,
+        counts.hints,
+        counts.repeats,
+    ) {
         (_, 0, 0, 0) => Some(1),
         (0, _, 0, 0) => Some(2),
         (1, _, 0, 0) => Some(2),
@@ -202,7 +215,12 @@ fn least_opcode(counts: Counts) -> Option<usize>
 fn least_escaped(counts: Counts) -> Option<usize>
     ensures { result ≡ reading.least_escaped counts }
 {
-    match (counts.halves, counts.segments, counts.hints, counts.repeats) {
+    match (
+        counts.operand_sizes,
+        counts.segments,
+        counts.hints,
+        counts.repeats,
+    ) {
         (0, 0, 0, 0) => Some(1),
         (_, _, 0, 0) => Some(2),
         (0, 0, 0, 1) => Some(2),
@@ -254,14 +272,14 @@ fn bit(holds: bool) -> u8
 }
 
 fn more(counts: Counts, byte: u8) -> Counts
-    requires halves { counts.halves < 255 }
+    requires operand_sizes { counts.operand_sizes < 255 }
     requires segments { counts.segments < 255 }
     requires hints { counts.hints < 255 }
     requires repeats { counts.repeats < 255 }
     ensures { result ≡ spells.more counts byte }
 {
     Counts {
-        halves: counts.halves + bit(byte == 0x66),
+        operand_sizes: counts.operand_sizes + bit(byte == 0x66),
         segments: counts.segments + bit(byte == 0x2E),
         hints: counts.hints + bit(byte == 0x3E),
         repeats: counts.repeats + bit(byte == 0xF3),
@@ -271,7 +289,7 @@ fn more(counts: Counts, byte: u8) -> Counts
 /// What is seen behind prefixes that are counted already; together they have to be countable.
 #[tactic(auto, unfolding(x86_grammar::specs::Reading::read_from))]
 fn read_from(counts: Counts, bytes: &[u8]) -> Seen
-    requires halves { counts.halves + length bytes.now < 256 }
+    requires operand_sizes { counts.operand_sizes + length bytes.now < 256 }
     requires segments { counts.segments + length bytes.now < 256 }
     requires hints { counts.hints + length bytes.now < 256 }
     requires repeats { counts.repeats + length bytes.now < 256 }
@@ -295,7 +313,7 @@ pub(crate) fn read(bytes: &[u8]) -> Seen
     ensures { result ≡ reading.read bytes.now }
 {
     let none = Counts {
-        halves: 0,
+        operand_sizes: 0,
         segments: 0,
         hints: 0,
         repeats: 0,

@@ -5,8 +5,8 @@ use x86_types::{Address, AluOp, Instr, Reg, Rm, Src, Width};
 /// volume 2, sections 2.1.1 and 2.3.11, appendix A, and the pages "LEA", "NOP" and "POP".
 #[test]
 fn fronts_and_prefixes(rt: HostRuntime) {
-    let mut halves = [0x66; 16];
-    halves[15] = 0x90;
+    let mut operand_sizes = [0x66; 16];
+    operand_sizes[15] = 0x90;
     let rows = [
         (decode(&[]), Decoded::Short),
         (decode(&[0xB8, 0x01, 0x00]), Decoded::Short),
@@ -22,8 +22,8 @@ fn fronts_and_prefixes(rt: HostRuntime) {
             ]),
             Decoded::One(Instr::Nop, 11),
         ),
-        (decode(&halves), Decoded::Outside),
-        (decode(&halves[1..]), Decoded::One(Instr::Nop, 15)),
+        (decode(&operand_sizes), Decoded::Outside),
+        (decode(&operand_sizes[1..]), Decoded::One(Instr::Nop, 15)),
     ];
     for (answer, wanted) in rows {
         assert_eq!(rt; answer, wanted);

@@ -9,10 +9,10 @@ use Rattle.x86_types.specs.declared.operand.Rm.TheVariants as rm
 use Rattle.x86_types.specs.declared.instr.Instr.{Instr}
 use Rattle.x86_types.specs.Numbers.{number_of_reg, reg_of}
 use Rattle.x86_grammar.specs.declared.row.Counts.{Counts}
-use Rattle.x86_grammar.specs.Rows.{key_of, has_operand}
-use Rattle.x86_grammar.specs.Attributes.{can_half, imm_size}
+use Rattle.x86_grammar.specs.Rows.{opcode_of, has_operand}
+use Rattle.x86_grammar.specs.Attributes.{has_operand_size, imm_size}
 use Rattle.x86_grammar.specs.Operand.{Operand, IsOperand, operand_bytes, rm_of, le, address}
-use Rattle.x86_grammar.specs.Spells.{Spelling, IsSpelling, bytes_of, opcode_bytes, operand_part, no_counts, counted}
+use Rattle.x86_grammar.specs.Spells.{Spelling, IsSpelling, spelling_bytes, opcode_bytes, operand_part, no_counts, counted}
 use Rattle.x86_grammar.specs.Rows.{bit}
 use Rattle.x86_encode.specs.BestOperand.{best_bytes}
 use Rattle.x86_encode.specs.BestForm.{best_prefixes, best_operand, best_part, form_best}
@@ -95,26 +95,26 @@ more_prefixes false true x y t f = inl (omega arith)
 more_prefixes true true x y [] f = f refl refl refl
 more_prefixes true true x y (z ∷ t) f = inl (omega arith)
 
-best_front : (can : Bool) (ps : List ℕ) → NotAfter (best_prefixes (eqb (counted no_counts ps).halves 1 && can) (eqb (counted no_counts ps).repeats 1)) ps
+best_front : (can : Bool) (ps : List ℕ) → NotAfter (best_prefixes (eqb (counted no_counts ps).operand_sizes 1 && can) (eqb (counted no_counts ps).repeats 1)) ps
 best_front can [] = NotAfter-refl []
 best_front can (x ∷ []) = one_prefix x (eqb x 102) (eqb x 243) can refl refl
 best_front can (x ∷ y ∷ t) =
     let c : Counts = counted no_counts (x ∷ y ∷ t) in
     more_prefixes _ _ x y t (λ h p e.
-    let n = rw e at (eqb-true c.halves 1 (and_left (eqb c.halves 1) can h)) in
+    let n = rw e at (eqb-true c.operand_sizes 1 (and_left (eqb c.operand_sizes 1) can h)) in
     let k = rw e at (eqb-true c.repeats 1 p) in
     two_prefixes x y _ _ _ _ refl refl refl refl (omega (arith, n)) (omega (arith, k)))
 
 module _ (reg_again : (n : ℕ) → n < 8 → number_of_reg (reg_of n) ≡ n) (i : Instr) (x : Spelling) (ok : IsSpelling x i) where
-  operand_best : (b : Bool) → has_operand x.form.row ≡ b → NotAfter (best_part b x.form.rm x.form.middle) (operand_part b x.operand)
-  operand_best true e = let s = ok.operand e in best_shown reg_again x.operand s.is x.form.middle s.middle x.form.rm s.rm
+  operand_best : (b : Bool) → has_operand x.form.row ≡ b → NotAfter (best_part b x.form.rm x.form.reg_field) (operand_part b x.operand)
+  operand_best true e = let s = ok.operand e in best_shown reg_again x.operand s.is x.form.reg_field s.reg_field x.form.rm s.rm
   operand_best false e = NotAfter-refl []
 
   -- no spelling is better than the best of its form
-  pub form_is_best : NotAfter (form_best x.form) (bytes_of x)
+  pub form_is_best : NotAfter (form_best x.form) (spelling_bytes x)
   form_is_best =
       let o = operand_best (has_operand x.form.row) refl in
-      let tail = NotAfter-both _ _ _ _ o (NotAfter-refl (le (imm_size x.form.row x.form.half) x.form.imm)) in
-      let behind = NotAfter-both _ _ _ _ (NotAfter-refl (opcode_bytes (key_of x.form.row))) tail in
-      let front : NotAfter (best_prefixes x.form.half x.form.rep) x.prefixes = rw (ok.half, ok.rep) (best_front (can_half x.form.row) x.prefixes) in
+      let tail = NotAfter-both _ _ _ _ o (NotAfter-refl (le (imm_size x.form.row x.form.operand_size) x.form.imm)) in
+      let behind = NotAfter-both _ _ _ _ (NotAfter-refl (opcode_bytes (opcode_of x.form.row))) tail in
+      let front : NotAfter (best_prefixes x.form.operand_size x.form.rep) x.prefixes = rw (ok.operand_size, ok.rep) (best_front (has_operand_size x.form.row) x.prefixes) in
       NotAfter-both _ _ _ _ front behind

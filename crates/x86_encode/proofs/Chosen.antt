@@ -95,7 +95,7 @@ is_false false h = refl
 not_short : FormsAreRight → (i : Instr) (f : Form) → In f (forms i) → is_jump i ≡ false → is_short f.row ≡ false
 not_short right i f h e =
     let m = allowed f.rm in
-    is_false (is_short f.row) (λ s. false≢true (sym e ∙ short_means f.row f.half f.rep f.middle m.0 f.imm i s (right.means i f m.0 h m.1)))
+    is_false (is_short f.row) (λ s. false≢true (sym e ∙ short_means f.row f.operand_size f.rep f.reg_field m.0 f.imm i s (right.means i f m.0 h m.1)))
 
 long_row : (f g : Form) → f ≡ g → is_short g.row ≡ false → is_short f.row ≡ false
 long_row f g e h = subst (λ (x : Form). is_short x.row ≡ false) (sym e) h

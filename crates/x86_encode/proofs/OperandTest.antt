@@ -32,7 +32,7 @@ module _ (m s : ℕ) where
   abbrev pub all_better : Bool
   all_better = better 0 && better 1 && better 2
 
--- ModRM without its middle field: 8 of each 64
+-- ModRM without its reg field: 8 of each 64
 abbrev pub m_at : ℕ → ℕ
 m_at k = 64 * (k / 8) + k % 8
 
@@ -90,7 +90,7 @@ tails (y ∷ h) [] size wide d e l q x same = absurd x
 tails (y ∷ h) (z ∷ t) size wide d e l q (inl x) same = inl x
 tails (y ∷ h) (z ∷ t) size wide d e l q (inr x) same = inr (x.0, tails h t size wide d e (omega arith) q x.1 same)
 
--- The test is of ModRM without its middle field. This is what it says of the whole.
+-- The test is of ModRM without its reg field. This is what it says of the whole.
 record Says (h t : List ℕ) (m k : ℕ) (size wide : ℕ) : Type 0 where
   short : (length (m ∷ h) + size < length (k ∷ t) + wide) ⊎ ((length (m ∷ h) + size ≡ length (k ∷ t) + wide) × (length (m ∷ h) ≡ length (k ∷ t)) × ByBytes (m ∷ h) (k ∷ t))
 

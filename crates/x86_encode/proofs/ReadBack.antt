@@ -1,4 +1,4 @@
--- The best operand is an operand, with its middle field, and says the address.
+-- The best operand is an operand, with its reg field, and says the address.
 use Rattle.std.proofs.Common.{◌≡◌, ℕ, ◌+◌, ◌*◌, ◌/◌, ◌%◌, ◌^◌, ◌<◌, Bool, true, false, cond, ltb, eqb, List, ◌∷◌, ◌++◌, Option, Some, None, refl, sym, ap, subst, ◌∙◌, lit<, arith}
 use Rattle.std.proofs.lemmas.Bool.{cond_both, false≢true, eqb-true, ltb-true, lt-ltb, le-ltb}
 use Rattle.std.specs.Prelude.{IfSome}
@@ -56,11 +56,11 @@ again (Some r) d lt =
     (λ e. let z = eqb-true d 0 e in cond_both (eqb (number_of_reg r) 5) 1 0 (λ s. Again s d) (λ f. again_one d (zero_one d z)) (λ f. again_zero d z))
     (λ e. cond_both (eqb (signed Four (d % 256)) d) 1 2 (λ c. Again (best_size (Some r) c) d) (λ f. again_one d (eqb-true _ _ f)) (λ f. again_four d lt))
 
--- ---- an operand with that middle field that says that, and has those bytes
+-- ---- an operand with that reg field that says that, and has those bytes
 pub record Shown (n : ℕ) (x : Option Rm) (bytes : List ℕ) : Type 0 where
   pub operand : Operand
   pub is : IsOperand operand
-  pub middle : operand.m / 8 % 8 ≡ n
+  pub reg_field : operand.m / 8 % 8 ≡ n
   pub rm : IfSome x (λ r. rm_of operand.m operand.sib operand.disp ≡ r)
   pub bytes_are : operand_bytes operand ≡ bytes
 
@@ -136,7 +136,7 @@ module _ (n : ℕ) (small : n < 8) (a : Address) (ok : address_fits a ≡ true) 
       record {
         operand = record { m = m; sib = sib; disp = d };
         is = record { m = omega arith; sib = said.byte; none = λ e. sib_zero a.base a.index a.scale (sym sib_is ∙ e); disp = subst (λ (k : ℕ). d < 256 ^ k) (sym size_is) disp_again.fits };
-        middle = omega (arith, r, small);
+        reg_field = omega (arith, r, small);
         rm = if_true (ltb m 192) (rm.Mem (address m sib d)) (rm.Reg (reg_of (m % 8))) (lt-ltb m 192 l) ∙ ap rm.Mem (same_address _ a.base _ a.index _ a.scale _ a.disp base_is index_is scale_is disp_is);
         bytes_are = same_bytes m sib d (has_sib m) (wants_sib a.base a.index) (disp_size m sib) size sib_is size_is;
       }
@@ -154,7 +154,7 @@ module _ (again : (r : Reg) → reg_of (number_of_reg r) ≡ r) (n : ℕ) (small
       record {
         operand = record { m = m; sib = 0; disp = 0 };
         is = record { m = omega arith; sib = lit< tt; none = λ e. refl; disp = subst (λ (k : ℕ). 0 < 256 ^ k) (sym size) (lit< tt) };
-        middle = omega arith;
+        reg_field = omega arith;
         rm = rw (high, base, again) refl;
         bytes_are = same_bytes m 0 0 (has_sib m) false (disp_size m 0) 0 none size;
       }
@@ -170,7 +170,7 @@ module _ (again : (r : Reg) → reg_of (number_of_reg r) ≡ r) (n : ℕ) (small
       record {
         operand = record { m = m; sib = 0; disp = 0 };
         is = record { m = omega arith; sib = lit< tt; none = λ e. refl; disp = subst (λ (k : ℕ). 0 < 256 ^ k) (sym size) (lit< tt) };
-        middle = omega arith;
+        reg_field = omega arith;
         rm = tt;
         bytes_are = same_bytes m 0 0 (has_sib m) false (disp_size m 0) 0 none size;
       }

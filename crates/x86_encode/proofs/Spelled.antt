@@ -12,13 +12,13 @@ use Rattle.x86_types.specs.declared.instr.Instr.{Instr}
 use Rattle.x86_grammar.specs.declared.row.Form.{Form}
 use Rattle.x86_grammar.specs.declared.row.Row.{Row}
 use Rattle.x86_grammar.specs.declared.row.Row.TheVariants as row
-use Rattle.x86_grammar.specs.Rows.{key_of, has_operand}
-use Rattle.x86_grammar.specs.Attributes.{can_half, imm_size, width_of, rep_fits}
+use Rattle.x86_grammar.specs.Rows.{opcode_of, has_operand}
+use Rattle.x86_grammar.specs.Attributes.{has_operand_size, imm_size, width_of, rep_fits}
 use Rattle.x86_grammar.specs.FormLaws.{FormSuits, FormFits}
 use Rattle.x86_grammar.specs.Forms.{In, forms}
 use Rattle.x86_grammar.specs.Parts.{signed}
 use Rattle.x86_grammar.specs.Operand.{Operand, le, sibs}
-use Rattle.x86_grammar.specs.Spells.{is_prefix, counts_of, prefixes_fit, half_in, opcode_bytes, operand_part, bytes_of, Spelling, Spells}
+use Rattle.x86_grammar.specs.Spells.{is_prefix, counts_of, prefixes_fit, operand_size_in, opcode_bytes, operand_part, spelling_bytes, Spelling, Spells}
 use Rattle.x86_encode.specs.BestOperand.{best_size, best_sib, class_of, raw, wants_sib}
 use Rattle.x86_encode.specs.BestForm.{best_prefixes, best_operand, best_part, form_best}
 use Rattle.x86_encode.proofs.OperandTest.{length-le}
@@ -38,17 +38,17 @@ prefixes_are true false = (refl, tt)
 prefixes_are false true = (refl, tt)
 prefixes_are false false = tt
 
-fit_there : (r : Row) (h p : Bool) → (not h || can_half r) ≡ true → rep_fits r p ≡ true → prefixes_fit r (counts_of (best_prefixes h p)) ≡ true
+fit_there : (r : Row) (h p : Bool) → (not h || has_operand_size r) ≡ true → rep_fits r p ≡ true → prefixes_fit r (counts_of (best_prefixes h p)) ≡ true
 fit_there r true true a b = rw (a, b) refl
 fit_there r true false a b = rw (a, b) refl
 fit_there r false true a b = rw b refl
 fit_there r false false a b = rw b refl
 
-half_there : (r : Row) (h p : Bool) → (not h || can_half r) ≡ true → h ≡ half_in r (counts_of (best_prefixes h p))
-half_there r true true a = sym a
-half_there r true false a = sym a
-half_there r false true a = refl
-half_there r false false a = refl
+operand_size_there : (r : Row) (h p : Bool) → (not h || has_operand_size r) ≡ true → h ≡ operand_size_in r (counts_of (best_prefixes h p))
+operand_size_there r true true a = sym a
+operand_size_there r true false a = sym a
+operand_size_there r false true a = refl
+operand_size_there r false false a = refl
 
 rep_there : (h p : Bool) → p ≡ eqb (counts_of (best_prefixes h p)).repeats 1
 rep_there true true = refl
@@ -99,13 +99,13 @@ part_short true (Some (rm.Mem a)) n =
 
 pub form_short : (f : Form) → length (form_best f) ≤ 14
 form_short f =
-    let part = best_part (has_operand f.row) f.rm f.middle in
-    let tail = le (imm_size f.row f.half) f.imm in
-    let l1 = prefixes_short f.half f.rep in
-    let l2 = opcode_short (key_of f.row) in
-    let l3 = part_short (has_operand f.row) f.rm f.middle in
-    let l4 = imm_small f.row f.half in
-    omega (arith, length-append (best_prefixes f.half f.rep) (opcode_bytes (key_of f.row) ++ (part ++ tail)), length-append (opcode_bytes (key_of f.row)) (part ++ tail), length-append part tail, length-le (imm_size f.row f.half) f.imm)
+    let part = best_part (has_operand f.row) f.rm f.reg_field in
+    let tail = le (imm_size f.row f.operand_size) f.imm in
+    let l1 = prefixes_short f.operand_size f.rep in
+    let l2 = opcode_short (opcode_of f.row) in
+    let l3 = part_short (has_operand f.row) f.rm f.reg_field in
+    let l4 = imm_small f.row f.operand_size in
+    omega (arith, length-append (best_prefixes f.operand_size f.rep) (opcode_bytes (opcode_of f.row) ++ (part ++ tail)), length-append (opcode_bytes (opcode_of f.row)) (part ++ tail), length-append part tail, length-le (imm_size f.row f.operand_size) f.imm)
 
 -- ---- the whole
 
@@ -114,15 +114,15 @@ part_is true x n o e = e
 part_is false x n o e = refl
 
 module _ (again : (r : Reg) → reg_of (number_of_reg r) ≡ r) (i : Instr) (f : Form) (among : In f (forms i)) (fits : FormFits f) (suits : FormSuits f) where
-  shown : Shown f.middle f.rm (best_operand f.rm f.middle)
-  shown = operand_shown again f.middle fits.middle f.rm fits.operand
+  shown : Shown f.reg_field f.rm (best_operand f.rm f.reg_field)
+  shown = operand_shown again f.reg_field fits.reg_field f.rm fits.operand
 
   spelling : Spelling
-  spelling = record { prefixes = best_prefixes f.half f.rep; form = f; operand = shown.operand }
+  spelling = record { prefixes = best_prefixes f.operand_size f.rep; form = f; operand = shown.operand }
 
-  bytes_are : form_best f ≡ bytes_of spelling
+  bytes_are : form_best f ≡ spelling_bytes spelling
   unfolding spelling
-  bytes_are = ap (λ (x : List ℕ). best_prefixes f.half f.rep ++ (opcode_bytes (key_of f.row) ++ (x ++ le (imm_size f.row f.half) f.imm))) (sym (part_is (has_operand f.row) f.rm f.middle shown.operand shown.bytes_are))
+  bytes_are = ap (λ (x : List ℕ). best_prefixes f.operand_size f.rep ++ (opcode_bytes (opcode_of f.row) ++ (x ++ le (imm_size f.row f.operand_size) f.imm))) (sym (part_is (has_operand f.row) f.rm f.reg_field shown.operand shown.bytes_are))
 
   pub form_spelled : Spells (form_best f) i
   unfolding spelling
@@ -132,12 +132,12 @@ module _ (again : (r : Reg) → reg_of (number_of_reg r) ≡ r) (i : Instr) (f :
         spelling = spelling;
         right = record {
           among = among;
-          prefixes = prefixes_are f.half f.rep;
-          fit = fit_there f.row f.half f.rep suits.half suits.rep;
-          half = half_there f.row f.half f.rep suits.half;
-          rep = rep_there f.half f.rep;
-          operand = λ e. record { is = shown.is; middle = shown.middle; rm = shown.rm };
-          number = fits.number;
+          prefixes = prefixes_are f.operand_size f.rep;
+          fit = fit_there f.row f.operand_size f.rep suits.operand_size suits.rep;
+          operand_size = operand_size_there f.row f.operand_size f.rep suits.operand_size;
+          rep = rep_there f.operand_size f.rep;
+          operand = λ e. record { is = shown.is; reg_field = shown.reg_field; rm = shown.rm };
+          imm = fits.imm;
         };
         bytes_are = bytes_are;
         short = omega arith;

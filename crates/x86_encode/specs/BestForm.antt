@@ -4,7 +4,7 @@ use Rattle.x86_types.specs.declared.operand.Rm.{Rm}
 use Rattle.x86_types.specs.declared.operand.Rm.TheVariants as rm
 use Rattle.x86_types.specs.Numbers.{number_of_reg}
 use Rattle.x86_grammar.specs.declared.row.Form.{Form}
-use Rattle.x86_grammar.specs.Rows.{key_of, has_operand}
+use Rattle.x86_grammar.specs.Rows.{opcode_of, has_operand}
 use Rattle.x86_grammar.specs.Attributes.{imm_size}
 use Rattle.x86_grammar.specs.Operand.{le}
 use Rattle.x86_grammar.specs.Spells.{opcode_bytes}
@@ -27,4 +27,4 @@ best_part false o n = []
 best_part true o n = best_operand o n
 
 abbrev pub form_best : Form → List ℕ
-form_best f = best_prefixes f.half f.rep ++ (opcode_bytes (key_of f.row) ++ (best_part (has_operand f.row) f.rm f.middle ++ le (imm_size f.row f.half) f.imm))
+form_best f = best_prefixes f.operand_size f.rep ++ (opcode_bytes (opcode_of f.row) ++ (best_part (has_operand f.row) f.rm f.reg_field ++ le (imm_size f.row f.operand_size) f.imm))

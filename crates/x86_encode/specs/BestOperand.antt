@@ -60,6 +60,6 @@ best_sibs a = sibs (wants_sib a.base a.index) (best_sib a.base a.index a.scale)
 abbrev pub best_disp : Address → List ℕ
 best_disp a = le (best_size a.base (class_of a.disp)) (raw (best_size a.base (class_of a.disp)) a.disp)
 
--- ModRM, SIB and the displacement, with that middle field
+-- ModRM, SIB and the displacement, with that reg field
 abbrev pub best_bytes : ℕ → Address → List ℕ
 best_bytes n a = best_m n a ∷ (best_sibs a ++ best_disp a)

@@ -18,12 +18,12 @@ use x86_types::{
 fn alu_from_reg(best: &mut Text, op: AluOp, width: Width, to: Rm, from: Reg)
     ensures { text best.new ≡ picks (text best.old) (forms.alu_forms op width to (src.Reg from)) }
 {
-    let full = is_full(width);
-    offer_rm(best, Row::AluToRm(op, full), width, reg_number(from), to, 0);
+    let w = is_full(width);
+    offer_rm(best, Row::AluToRm(op, w), width, reg_number(from), to, 0);
     if let Rm::Reg(reg) = to {
         offer_rm(
             best,
-            Row::AluToReg(op, full),
+            Row::AluToReg(op, w),
             width,
             reg_number(reg),
             Rm::Reg(from),
@@ -67,9 +67,9 @@ fn alu_byte(best: &mut Text, op: AluOp, width: Width, to: Rm, value: u32)
 fn alu_from_imm(best: &mut Text, op: AluOp, width: Width, to: Rm, value: u32)
     ensures { text best.new ≡ picks (text best.old) (forms.alu_forms op width to (src.Imm value)) }
 {
-    let full = is_full(width);
-    offer_rm(best, Row::AluImm(full), width, alu_number(op), to, value);
-    offer_acc(best, to, Row::AluAcc(op, full), width, value);
+    let w = is_full(width);
+    offer_rm(best, Row::AluImm(w), width, alu_number(op), to, value);
+    offer_acc(best, to, Row::AluAcc(op, w), width, value);
     alu_byte(best, op, width, to, value);
 }
 
@@ -88,18 +88,18 @@ pub(crate) fn alu(best: &mut Text, op: AluOp, width: Width, to: Rm, from: Src)
 pub(crate) fn test(best: &mut Text, width: Width, left: Rm, right: Src)
     ensures { text best.new ≡ picks (text best.old) (forms.test_forms width left right) }
 {
-    let full = is_full(width);
+    let w = is_full(width);
     match right {
-        Src::Reg(reg) => offer_rm(best, Row::TestRm(full), width, reg_number(reg), left, 0),
+        Src::Reg(reg) => offer_rm(best, Row::TestRm(w), width, reg_number(reg), left, 0),
         Src::Mem(_) => {}
         Src::Imm(value) => {
-            offer_rm(best, Row::TestImm(full), width, 0, left, value);
-            offer_acc(best, left, Row::TestAcc(full), width, value);
+            offer_rm(best, Row::TestImm(w), width, 0, left, value);
+            offer_acc(best, left, Row::TestAcc(w), width, value);
         }
     }
 }
 
-/// A row with a register in the middle field, at widths Two and Four.
+/// A row with a register in the reg field, at widths Two and Four.
 pub(crate) fn to_reg(best: &mut Text, row: Row, width: Width, to: Reg, from: Rm)
     ensures { text best.new ≡ picks (text best.old) (forms.to_reg row width to from) }
 {
@@ -128,23 +128,23 @@ pub(crate) fn imul_by(best: &mut Text, width: Width, to: Reg, from: Rm, by: u32)
 pub(crate) fn shift(best: &mut Text, op: ShiftOp, width: Width, to: Rm, count: Count)
     ensures { text best.new ≡ picks (text best.old) (forms.shift_forms op width to count) }
 {
-    let full = is_full(width);
-    let middle = shift_number(op);
+    let w = is_full(width);
+    let reg_field = shift_number(op);
     match count {
         Count::Imm(value) => {
             offer_rm(
                 best,
-                Row::ShiftImm(op, full),
+                Row::ShiftImm(op, w),
                 width,
-                middle,
+                reg_field,
                 to,
                 value as u32,
             );
             if value == 1 {
-                offer_rm(best, Row::ShiftOne(op, full), width, middle, to, 0);
+                offer_rm(best, Row::ShiftOne(op, w), width, reg_field, to, 0);
             }
         }
-        Count::Cl => offer_rm(best, Row::ShiftCl(op, full), width, middle, to, 0),
+        Count::Cl => offer_rm(best, Row::ShiftCl(op, w), width, reg_field, to, 0),
     }
 }
 
@@ -152,9 +152,9 @@ pub(crate) fn shift(best: &mut Text, op: ShiftOp, width: Width, to: Rm, count: C
 pub(crate) fn double(best: &mut Text, imm: Row, cl: Row, to: Rm, from: Reg, count: Count)
     ensures { text best.new ≡ picks (text best.old) (forms.double_forms imm cl to from count) }
 {
-    let middle = reg_number(from);
+    let reg_field = reg_number(from);
     match count {
-        Count::Imm(value) => offer_rm(best, imm, Width::Four, middle, to, value as u32),
-        Count::Cl => offer_rm(best, cl, Width::Four, middle, to, 0),
+        Count::Imm(value) => offer_rm(best, imm, Width::Four, reg_field, to, value as u32),
+        Count::Cl => offer_rm(best, cl, Width::Four, reg_field, to, 0),
     }
 }

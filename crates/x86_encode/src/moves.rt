@@ -55,13 +55,13 @@ fn store(best: &mut Text, width: Width, to: Rm, from: Reg)
 fn mov_from_reg(best: &mut Text, width: Width, to: Rm, from: Reg)
     ensures { text best.new ≡ picks (text best.old) (forms.mov_forms width to (src.Reg from)) }
 {
-    let full = is_full(width);
-    offer_rm(best, Row::MovToRm(full), width, reg_number(from), to, 0);
+    let w = is_full(width);
+    offer_rm(best, Row::MovToRm(w), width, reg_number(from), to, 0);
     match to {
         Rm::Reg(reg) => {
             offer_rm(
                 best,
-                Row::MovToReg(full),
+                Row::MovToReg(w),
                 width,
                 reg_number(reg),
                 Rm::Reg(from),
@@ -86,10 +86,10 @@ fn mov_from_mem(best: &mut Text, width: Width, to: Rm, from: Address)
 fn mov_from_imm(best: &mut Text, width: Width, to: Rm, value: u32)
     ensures { text best.new ≡ picks (text best.old) (forms.mov_forms width to (src.Imm value)) }
 {
-    let full = is_full(width);
-    offer_rm(best, Row::MovImm(full), width, 0, to, value);
+    let w = is_full(width);
+    offer_rm(best, Row::MovImm(w), width, 0, to, value);
     if let Rm::Reg(reg) = to {
-        offer_plain(best, Row::MovReg(reg, full), width, value);
+        offer_plain(best, Row::MovReg(reg, w), width, value);
     }
 }
 
@@ -186,18 +186,25 @@ pub(crate) fn xchg(best: &mut Text, width: Width, left: Rm, right: Reg)
 pub(crate) fn widen(
     best: &mut Text,
     byte: Row,
-    half: Row,
+    operand_size: Row,
     wide: Width,
     width: Width,
     to: Reg,
     from: Rm,
 )
-    ensures { text best.new ≡ picks (text best.old) (forms.widen_forms byte half wide width to from) }
+    ensures { text best.new ≡ picks (text best.old) (forms.widen_forms byte operand_size wide width to from) }
 {
     match (wide, width) {
         (Width::Two, Width::One) => offer_rm(best, byte, Width::Two, reg_number(to), from, 0),
         (Width::Four, Width::One) => offer_rm(best, byte, Width::Four, reg_number(to), from, 0),
-        (Width::Four, Width::Two) => offer_rm(best, half, Width::Four, reg_number(to), from, 0),
+        (Width::Four, Width::Two) => offer_rm(
+            best,
+            operand_size,
+            Width::Four,
+            reg_number(to),
+            from,
+            0,
+        ),
         _ => {}
     }
 }

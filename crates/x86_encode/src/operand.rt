@@ -142,35 +142,35 @@ fn put_disp(out: &mut Text, at: &Address)
     put_number(out, size, raw(size, at.disp));
 }
 
-fn m_of(middle: u8, at: &Address) -> u8
-    requires { middle < 8 }
-    ensures { result ≡ spec.best_m middle at.now }
+fn m_of(reg_field: u8, at: &Address) -> u8
+    requires { reg_field < 8 }
+    ensures { result ≡ spec.best_m reg_field at.now }
 {
-    64 * best_mod(at.base, class_of(at.disp)) + (8 * middle + best_rm(at.base, at.index))
+    64 * best_mod(at.base, class_of(at.disp)) + (8 * reg_field + best_rm(at.base, at.index))
 }
 
-fn put_address(out: &mut Text, middle: u8, at: &Address)
-    requires middle { middle < 8 }
+fn put_address(out: &mut Text, reg_field: u8, at: &Address)
+    requires reg_field { reg_field < 8 }
     requires room { out.old.len + 6 ≤ 16 }
-    ensures text { text out.new ≡ text out.old ++ spec.best_bytes middle at.now }
+    ensures text { text out.new ≡ text out.old ++ spec.best_bytes reg_field at.now }
     ensures len { out.new.len ≤ out.old.len + 6 }
 {
-    put(out, m_of(middle, at));
+    put(out, m_of(reg_field, at));
     put_sib(out, at);
     put_disp(out, at);
 }
 
-/// Puts the best spelling of the operand behind the text: ModRM with that middle field, SIB where it
+/// Puts the best spelling of the operand behind the text: ModRM with that reg field, SIB where it
 /// must stand, and the shortest displacement. No `rm`: any will do.
-pub(crate) fn put_operand(out: &mut Text, middle: u8, rm: Option<Rm>)
-    requires middle { middle < 8 }
+pub(crate) fn put_operand(out: &mut Text, reg_field: u8, rm: Option<Rm>)
+    requires reg_field { reg_field < 8 }
     requires room { out.old.len + 6 ≤ 16 }
-    ensures text { text out.new ≡ text out.old ++ form.best_operand rm middle }
+    ensures text { text out.new ≡ text out.old ++ form.best_operand rm reg_field }
     ensures len { out.new.len ≤ out.old.len + 6 }
 {
     match rm {
-        None => put(out, 8 * middle),
-        Some(Rm::Reg(reg)) => put(out, 192 + (8 * middle + reg_number(reg))),
-        Some(Rm::Mem(at)) => put_address(out, middle, &at),
+        None => put(out, 8 * reg_field),
+        Some(Rm::Reg(reg)) => put(out, 192 + (8 * reg_field + reg_number(reg))),
+        Some(Rm::Mem(at)) => put_address(out, reg_field, &at),
     }
 }

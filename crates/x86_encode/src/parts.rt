@@ -13,7 +13,7 @@ pub(crate) fn is_signed_byte(width: Width, value: u32) -> bool
 
 /// Whether the opcode isn't that of width One.
 pub(crate) fn is_full(width: Width) -> bool
-    ensures { result ≡ parts.full_of width }
+    ensures { result ≡ parts.w_bit width }
 {
     match width {
         Width::One => false,
@@ -23,8 +23,8 @@ pub(crate) fn is_full(width: Width) -> bool
 }
 
 /// Whether 66 makes the width.
-pub(crate) fn is_half(width: Width) -> bool
-    ensures { result ≡ parts.half_of width }
+pub(crate) fn is_operand_size(width: Width) -> bool
+    ensures { result ≡ parts.operand_size_of width }
 {
     match width {
         Width::One => false,

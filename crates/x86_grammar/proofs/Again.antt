@@ -9,9 +9,9 @@ use Rattle.x86_types.specs.declared.operation.Cond.TheVariants as cond
 use Rattle.x86_grammar.specs.declared.row.Row.{Row}
 use Rattle.x86_grammar.specs.declared.row.Row.TheVariants as row
 use Rattle.x86_grammar.specs.Table.{entry_of, row_at}
-use Rattle.x86_grammar.specs.Rows.{key_of, middle_of, fits_middle}
+use Rattle.x86_grammar.specs.Rows.{opcode_of, reg_field_of, fits_reg_field}
 
-pub row_again : (r : Row) (n : ℕ) → fits_middle (middle_of r) n ≡ true → row_at (key_of r) n ≡ Some r
+pub row_again : (r : Row) (n : ℕ) → fits_reg_field (reg_field_of r) n ≡ true → row_at (opcode_of r) n ≡ Some r
 unfolding entry_of
 row_again (row.AluToRm alu.Add false) n h = refl
 row_again (row.AluToRm alu.Add true) n h = refl

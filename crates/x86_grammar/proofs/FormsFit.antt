@@ -26,18 +26,18 @@ use Rattle.x86_grammar.specs.Fields.{number_fits, index_fits, address_fits, rm_f
 use Rattle.x86_grammar.specs.FormLaws.{FormSuits, FormFits}
 use Rattle.x86_grammar.specs.Forms.{In, forms, alu_forms, test_forms, number_only, if_number, mov_load, mov_store, mov_forms, short_step, to_reg, imul_by_forms, shift_forms, push_forms, other_reg, xchg_short, widen_forms, ret_forms}
 use Rattle.x86_grammar.specs.Meaning.{build}
-use Rattle.x86_grammar.specs.Parts.{full_of, half_of, signed, with_rm, plain, if_signed, if_reg, if_acc, not_one}
+use Rattle.x86_grammar.specs.Parts.{w_bit, operand_size_of, signed, with_rm, plain, if_signed, if_reg, if_acc, not_one}
 use Rattle.x86_grammar.proofs.Map.{and_left, and_right}
 use Rattle.x86_grammar.proofs.Means.{mean_of, forms_mean, rm_or}
 use Rattle.x86_grammar.proofs.Operands.{reg_low}
-use Rattle.x86_grammar.proofs.Fit.{alu_low, shift_low, sized}
+use Rattle.x86_grammar.proofs.SomeForm.{alu_low, shift_low, sized}
 
 abbrev AllFit : List Form → Type 0
 AllFit [] = Unit {0}
 AllFit (f ∷ fs) = FormFits f × AllFit fs
 
-fit : {f : Form} → f.middle < 8 → f.imm < 256 ^ imm_size f.row f.half → IfSome f.rm (λ m. rm_fits m ≡ true) → FormFits f
-fit m v o = record { middle = m; number = v; operand = o }
+fit : {f : Form} → f.reg_field < 8 → f.imm < 256 ^ imm_size f.row f.operand_size → IfSome f.rm (λ m. rm_fits m ≡ true) → FormFits f
+fit m v o = record { reg_field = m; imm = v; operand = o }
 
 fit_in : (f : Form) (fs : List Form) → AllFit fs → In f fs → FormFits f
 fit_in f [] all h = absurd h
@@ -88,7 +88,7 @@ load_all : (w : Width) (t : Reg) (a : Address) → address_fits a ≡ true → A
 load_all w reg.Eax a e = All_number a.base a.index a.scale _ (fit (lit< tt) (disp_low a e) tt)
 load_all w _ a e = tt
 
-store_at : (w : Width) (to : Rm) → rm_fits to ≡ true → AllFit (if_number to (λ d. plain (row.MovStore (full_of w)) w d))
+store_at : (w : Width) (to : Rm) → rm_fits to ≡ true → AllFit (if_number to (λ d. plain (row.MovStore (w_bit w)) w d))
 store_at w (rm.Reg t) e = tt
 store_at w (rm.Mem a) e = All_number a.base a.index a.scale _ (fit (lit< tt) (disp_low a e) tt)
 
@@ -120,10 +120,10 @@ mov_all w to (src.Imm v) e =
     let n = sized w v (and_right (rm_fits to) (number_fits w v) e) in
     (fit (lit< tt) n (and_left (rm_fits to) (number_fits w v) e), All_reg to _ (λ t. (fit (lit< tt) n tt, tt)))
 
-step_all : (r : Reg → Row) (w : Width) (to : Rm) → ((t : Reg) → 0 < 256 ^ imm_size (r t) (half_of w)) → AllFit (short_step r w to)
+step_all : (r : Reg → Row) (w : Width) (to : Rm) → ((t : Reg) → 0 < 256 ^ imm_size (r t) (operand_size_of w)) → AllFit (short_step r w to)
 step_all r w to h = All_wide w _ (All_reg to _ (λ t. (fit (lit< tt) (h t) tt, tt)))
 
-by_all : (w : Width) (to : Reg) (from : Rm) (v : ℕ) → (full_of w && (rm_fits from && number_fits w v)) ≡ true → AllFit (imul_by_forms w to from v)
+by_all : (w : Width) (to : Reg) (from : Rm) (v : ℕ) → (w_bit w && (rm_fits from && number_fits w v)) ≡ true → AllFit (imul_by_forms w to from v)
 by_all One to from v e = tt
 by_all Two to from v e =
     let o = and_left (rm_fits from) (number_fits Two v) e in
@@ -132,8 +132,8 @@ by_all Four to from v e =
     let o = and_left (rm_fits from) (number_fits Four v) e in
     (fit (reg_low to) (ltb-true _ _ (and_right (rm_fits from) (number_fits Four v) e)) o, All_signed Four v (λ b. with_rm row.ImulByte Four (number_of_reg to) from b) (fit (reg_low to) (byte_low v) o))
 
-to_reg_all : (r : Row) (w : Width) (to : Reg) (from : Rm) → 0 < 256 ^ imm_size r (half_of w) → (full_of w && rm_fits from) ≡ true → AllFit (to_reg r w to from)
-to_reg_all r w to from h e = All_wide w _ (fit (reg_low to) h (and_right (full_of w) (rm_fits from) e), tt)
+to_reg_all : (r : Row) (w : Width) (to : Reg) (from : Rm) → 0 < 256 ^ imm_size r (operand_size_of w) → (w_bit w && rm_fits from) ≡ true → AllFit (to_reg r w to from)
+to_reg_all r w to from h e = All_wide w _ (fit (reg_low to) h (and_right (w_bit w) (rm_fits from) e), tt)
 
 shift_all : (op : ShiftOp) (w : Width) (to : Rm) (n : Count) → (rm_fits to && count_fits n) ≡ true → AllFit (shift_forms op w to n)
 shift_all op w to (count.Imm v) e =
@@ -172,7 +172,7 @@ forms_all : (i : Instr) → fields_fit i ≡ true → AllFit (forms i)
 forms_all (instr.Alu op w to from) e = alu_all op w to from e
 forms_all (instr.Test w left right) e = test_all w left right e
 forms_all (instr.Mov w to from) e = mov_all w to from e
-forms_all (instr.Lea w to a) e = All_wide w _ (fit (reg_low to) (lit< tt) (and_right (full_of w) (address_fits a) e), tt)
+forms_all (instr.Lea w to a) e = All_wide w _ (fit (reg_low to) (lit< tt) (and_right (w_bit w) (address_fits a) e), tt)
 forms_all (instr.Inc w to) e = (fit (lit< tt) (lit< tt) e, step_all row.IncReg w to (λ t. lit< tt))
 forms_all (instr.Dec w to) e = (fit (lit< tt) (lit< tt) e, step_all row.DecReg w to (λ t. lit< tt))
 forms_all (instr.Not w to) e = (fit (lit< tt) (lit< tt) e, tt)
@@ -221,11 +221,11 @@ form_fits i f e h = fit_in f (forms i) (forms_all i e) h
 pub form_suits : (i : Instr) (f : Form) → In f (forms i) → FormSuits f
 form_suits i f h =
     let s = (mean_of i f (forms i) (forms_mean i) h).suits in
-    record { half = s.half; rep = s.rep }
+    record { operand_size = s.operand_size; rep = s.rep }
 
 allowed : (o : Option Rm) (m : Rm) → IfSome o (λ x. x ≡ m) → rm_or o m ≡ m
 allowed None m h = refl
 allowed (Some x) m h = h
 
-pub form_means : (i : Instr) (f : Form) (m : Rm) → In f (forms i) → IfSome f.rm (λ x. x ≡ m) → build f.row f.half f.rep f.middle m f.imm ≡ Some i
-form_means i f m h a = subst (λ (x : Rm). build f.row f.half f.rep f.middle x f.imm ≡ Some i) (allowed f.rm m a) ((mean_of i f (forms i) (forms_mean i) h).built m)
+pub form_means : (i : Instr) (f : Form) (m : Rm) → In f (forms i) → IfSome f.rm (λ x. x ≡ m) → build f.row f.operand_size f.rep f.reg_field m f.imm ≡ Some i
+form_means i f m h a = subst (λ (x : Rm). build f.row f.operand_size f.rep f.reg_field x f.imm ≡ Some i) (allowed f.rm m a) ((mean_of i f (forms i) (forms_mean i) h).built m)

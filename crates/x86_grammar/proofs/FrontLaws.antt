@@ -24,7 +24,7 @@ use Rattle.x86_grammar.specs.Meaning.{build}
 use Rattle.x86_grammar.specs.Operand.{le, from_le, rm_of}
 use Rattle.x86_grammar.specs.Parts.{signed}
 use Rattle.x86_grammar.specs.Reading.{numbers, found, sib_at, after_m, m_at, plain_at, after_opcode, after_escape, at_opcode, read_from, read, AreBytes}
-use Rattle.x86_grammar.specs.Spells.{half_in, no_counts, Spells}
+use Rattle.x86_grammar.specs.Spells.{operand_size_in, no_counts, Spells}
 use Rattle.x86_grammar.specs.Table.{entry_of}
 use Rattle.x86_grammar.proofs.Bytes.{spells_some}
 use Rattle.x86_grammar.proofs.LittleEndian.{length-le, from_le-le, from_le-below, le-from_le}
@@ -134,13 +134,13 @@ below : (k n : ℕ) → k < n → ltb k n ≡ true
 below k n h = grind (arith, nat_tests)
 
 -- the bytes that a row wants are there, or they are not
-numbers_there : (r : Row) (c : Counts) (m s size : ℕ) (bytes : List ℕ) → size + imm_size r (half_in r c) ≤ length bytes → numbers r c m s size bytes ≡ found (build r (half_in r c) (eqb c.repeats 1) (m / 8 % 8) (rm_of m s (from_le size bytes)) (from_le (imm_size r (half_in r c)) (drop size bytes))) (length bytes - (size + imm_size r (half_in r c)))
+numbers_there : (r : Row) (c : Counts) (m s size : ℕ) (bytes : List ℕ) → size + imm_size r (operand_size_in r c) ≤ length bytes → numbers r c m s size bytes ≡ found (build r (operand_size_in r c) (eqb c.repeats 1) (m / 8 % 8) (rm_of m s (from_le size bytes)) (from_le (imm_size r (operand_size_in r c)) (drop size bytes))) (length bytes - (size + imm_size r (operand_size_in r c)))
 unfolding numbers
-numbers_there r c m s size bytes h = rw (not_below (length bytes) (size + imm_size r (half_in r c)) h) refl
+numbers_there r c m s size bytes h = rw (not_below (length bytes) (size + imm_size r (operand_size_in r c)) h) refl
 
-numbers_cut : (r : Row) (c : Counts) (m s size : ℕ) (bytes : List ℕ) → length bytes < size + imm_size r (half_in r c) → numbers r c m s size bytes ≡ Needs (size + imm_size r (half_in r c) - length bytes)
+numbers_cut : (r : Row) (c : Counts) (m s size : ℕ) (bytes : List ℕ) → length bytes < size + imm_size r (operand_size_in r c) → numbers r c m s size bytes ≡ Needs (size + imm_size r (operand_size_in r c) - length bytes)
 unfolding numbers
-numbers_cut r c m s size bytes h = rw (below (length bytes) (size + imm_size r (half_in r c)) h) refl
+numbers_cut r c m s size bytes h = rw (below (length bytes) (size + imm_size r (operand_size_in r c)) h) refl
 
 mov_reads : (r : Reg) (a b c d : ℕ) (rest : List ℕ) → read ((0xB8 + number_of_reg r) ∷ a ∷ b ∷ c ∷ d ∷ rest) ≡ numbers (row.MovReg r true) no_counts 0xC0 0 0 (a ∷ b ∷ c ∷ d ∷ rest)
 unfolding entry_of plain_at after_opcode at_opcode read_from

@@ -10,7 +10,9 @@ pub mod Map
 pub mod Means
 pub mod Operands
 pub mod RenamedFields
+pub mod RowFits
 pub mod Sees
+pub mod SomeForm
 pub mod Sound
 pub mod Stages
 pub mod Tells

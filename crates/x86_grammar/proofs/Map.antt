@@ -8,7 +8,7 @@ use Rattle.x86_grammar.specs.declared.row.Group.TheVariants as group
 use Rattle.x86_grammar.specs.declared.row.Entry.{Entry}
 use Rattle.x86_grammar.specs.declared.row.Entry.TheVariants as entry
 use Rattle.x86_grammar.specs.Table.{entry_of, member_of, row_in, row_at, shift_row, first_row, unit_row, step_row}
-use Rattle.x86_grammar.specs.Rows.{key_of, middle_of, fits_middle, has_operand}
+use Rattle.x86_grammar.specs.Rows.{opcode_of, reg_field_of, fits_reg_field, has_operand}
 use Rattle.x86_grammar.specs.Spells.{is_prefix}
 
 pub and_left : (a b : Bool) → (a && b) ≡ true → a ≡ true
@@ -26,30 +26,30 @@ or_cases false b h = inr h
 -- ---- each row that is found stands at its opcode
 
 abbrev right : ℕ → ℕ → Option Row → Bool
-right key n None = true
-right key n (Some r) = eqb (key_of r) key && fits_middle (middle_of r) n
+right opcode n None = true
+right opcode n (Some r) = eqb (opcode_of r) opcode && fits_reg_field (reg_field_of r) n
 
 abbrev right_below : ℕ → ℕ → Bool
-right_below key zero = true
-right_below key (suc n) = right key n (row_at key n) && right_below key n
+right_below opcode zero = true
+right_below opcode (suc n) = right opcode n (row_at opcode n) && right_below opcode n
 
-map_right : agree_below (λ key. right_below key 8) (λ key. true) 0x200 ≡ true
+map_right : agree_below (λ opcode. right_below opcode 8) (λ opcode. true) 0x200 ≡ true
 unfolding entry_of
 map_right = refl
 
-right_at : (key n : ℕ) (k : ℕ) → right_below key k ≡ true → n < k → right key n (row_at key n) ≡ true
-right_at key n zero h lt = absurd (omega arith)
-right_at key n (suc k) h lt =
+right_at : (opcode n : ℕ) (k : ℕ) → right_below opcode k ≡ true → n < k → right opcode n (row_at opcode n) ≡ true
+right_at opcode n zero h lt = absurd (omega arith)
+right_at opcode n (suc k) h lt =
     elim (cases_lt n k) [
-      | inl l ↦ right_at key n k (and_right (right key k (row_at key k)) (right_below key k) h) l
-      | inr g ↦ let e : k ≡ n = omega arith in subst (λ (x : ℕ). right key x (row_at key x) ≡ true) e (and_left (right key k (row_at key k)) (right_below key k) h)
+      | inl l ↦ right_at opcode n k (and_right (right opcode k (row_at opcode k)) (right_below opcode k) h) l
+      | inr g ↦ let e : k ≡ n = omega arith in subst (λ (x : ℕ). right opcode x (row_at opcode x) ≡ true) e (and_left (right opcode k (row_at opcode k)) (right_below opcode k) h)
     ]
 
-pub row_right : (key n : ℕ) (r : Row) → key < 0x200 → n < 8 → row_at key n ≡ Some r → (key_of r ≡ key) × (fits_middle (middle_of r) n ≡ true)
-row_right key n r lk ln e =
-    let t = agree_below_at (λ key. right_below key 8) (λ key. true) 0x200 key map_right lk in
-    let x : right key n (Some r) ≡ true = rw e at (right_at key n 8 t ln) in
-    (eqb-true _ _ (and_left (eqb (key_of r) key) (fits_middle (middle_of r) n) x), and_right (eqb (key_of r) key) (fits_middle (middle_of r) n) x)
+pub row_right : (opcode n : ℕ) (r : Row) → opcode < 0x200 → n < 8 → row_at opcode n ≡ Some r → (opcode_of r ≡ opcode) × (fits_reg_field (reg_field_of r) n ≡ true)
+row_right opcode n r lk ln e =
+    let t = agree_below_at (λ opcode. right_below opcode 8) (λ opcode. true) 0x200 opcode map_right lk in
+    let x : right opcode n (Some r) ≡ true = rw e at (right_at opcode n 8 t ln) in
+    (eqb-true _ _ (and_left (eqb (opcode_of r) opcode) (fits_reg_field (reg_field_of r) n) x), and_right (eqb (opcode_of r) opcode) (fits_reg_field (reg_field_of r) n) x)
 
 -- ---- nothing stands at a prefix or at 0F
 
@@ -80,11 +80,11 @@ is_false : (b : Bool) → (b ≡ true → ⊥) → b ≡ false
 is_false true h = absurd (h refl)
 is_false false h = refl
 
-pub no_prefix : (r : Row) (n : ℕ) → row_at (key_of r) n ≡ Some r → is_prefix (key_of r) ≡ false
-no_prefix r n e = is_false _ (λ h. nothing_there _ n r e (prefix_entry (key_of r) h))
+pub no_prefix : (r : Row) (n : ℕ) → row_at (opcode_of r) n ≡ Some r → is_prefix (opcode_of r) ≡ false
+no_prefix r n e = is_false _ (λ h. nothing_there _ n r e (prefix_entry (opcode_of r) h))
 
-pub no_escape : (r : Row) (n : ℕ) → row_at (key_of r) n ≡ Some r → eqb (key_of r) 0x0F ≡ false
-no_escape r n e = is_false _ (λ h. nothing_there _ n r e (escape_entry (key_of r) h))
+pub no_escape : (r : Row) (n : ℕ) → row_at (opcode_of r) n ≡ Some r → eqb (opcode_of r) 0x0F ≡ false
+no_escape r n e = is_false _ (λ h. nothing_there _ n r e (escape_entry (opcode_of r) h))
 
 -- ---- each member of a group has ModRM
 

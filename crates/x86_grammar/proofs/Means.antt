@@ -21,21 +21,21 @@ use Rattle.x86_types.specs.declared.instr.Instr.TheVariants as instr
 use Rattle.x86_grammar.specs.declared.row.Form.{Form}
 use Rattle.x86_grammar.specs.declared.row.Row.{Row}
 use Rattle.x86_grammar.specs.declared.row.Row.TheVariants as row
-use Rattle.x86_grammar.specs.Rows.{middle_of, fits_middle, has_operand}
-use Rattle.x86_grammar.specs.Attributes.{can_half, rep_fits, width_of}
+use Rattle.x86_grammar.specs.Rows.{reg_field_of, fits_reg_field, has_operand}
+use Rattle.x86_grammar.specs.Attributes.{has_operand_size, rep_fits, width_of}
 use Rattle.x86_grammar.specs.Meaning.{build, src_of, number_alone}
 use Rattle.x86_grammar.specs.Forms.{forms, In, alu_byte, number_only, mov_load, mov_store, short_step, unit, imul_by_forms, xchg_short, other_reg}
-use Rattle.x86_grammar.specs.Parts.{full_of, half_of, signed, if_signed, with_rm, plain, if_reg, if_acc, not_one}
+use Rattle.x86_grammar.specs.Parts.{w_bit, operand_size_of, signed, if_signed, with_rm, plain, if_reg, if_acc, not_one}
 
 abbrev pub rm_or : Option Rm → Rm → Rm
 rm_or None m = m
 rm_or (Some x) m = x
 
--- what the row wants of the prefixes and of the middle field
+-- what the row wants of the prefixes and of the reg field
 pub record Suits (r : Row) (h p : Bool) (n : ℕ) : Type 0 where
-  pub half : (not h || can_half r) ≡ true
+  pub operand_size : (not h || has_operand_size r) ≡ true
   pub rep : rep_fits r p ≡ true
-  pub middle : fits_middle (middle_of r) n ≡ true
+  pub reg_field : fits_reg_field (reg_field_of r) n ≡ true
 
 abbrev pub is_none : Option Rm → Bool
 is_none None = true
@@ -46,9 +46,9 @@ abbrev pub is_plain : Row → ℕ → Option Rm → Bool
 is_plain r n m = has_operand r || (eqb n 0 && is_none m)
 
 pub record Means (i : Instr) (f : Form) : Type 0 where
-  pub built : (m : Rm) → build f.row f.half f.rep f.middle (rm_or f.rm m) f.imm ≡ Some i
-  pub suits : Suits f.row f.half f.rep f.middle
-  pub plain : is_plain f.row f.middle f.rm ≡ true
+  pub built : (m : Rm) → build f.row f.operand_size f.rep f.reg_field (rm_or f.rm m) f.imm ≡ Some i
+  pub suits : Suits f.row f.operand_size f.rep f.reg_field
+  pub plain : is_plain f.row f.reg_field f.rm ≡ true
 
 abbrev pub AllMean : Instr → List Form → Type 0
 AllMean i [] = Unit {0}
@@ -64,37 +64,37 @@ All-signed i w v f h = cond_both (eqb (signed w (v % 256)) v) (f (v % 256) ∷ [
 one_if : (s : ℕ) (f : Form) (i : Instr) → (s ≡ 1 → Means i f) → AllMean i (cond (eqb s 1) (f ∷ []) [])
 one_if s f i h = cond_both (eqb s 1) (f ∷ []) [] (AllMean i) (λ e. (h (eqb-true _ _ e), tt)) (λ e. tt)
 
-pub widths : (w : Width) → width_of (full_of w) (half_of w) ≡ w
-widths w = elim w as (λ w. width_of (full_of w) (half_of w) ≡ w) [ One ↦ refl | _ ↦ refl ]
+pub widths : (w : Width) → width_of (w_bit w) (operand_size_of w) ≡ w
+widths w = elim w as (λ w. width_of (w_bit w) (operand_size_of w) ≡ w) [ One ↦ refl | _ ↦ refl ]
 
-half_ok : (w : Width) → (not (half_of w) || full_of w) ≡ true
-half_ok w = elim w as (λ w. (not (half_of w) || full_of w) ≡ true) [ One ↦ refl | _ ↦ refl ]
+operand_size_ok : (w : Width) → (not (operand_size_of w) || w_bit w) ≡ true
+operand_size_ok w = elim w as (λ w. (not (operand_size_of w) || w_bit w) ≡ true) [ One ↦ refl | _ ↦ refl ]
 
 same : (n : ℕ) → eqb n n ≡ true
 same n = eq-eqb n n refl
 
 -- a row whose operand has the width
 module _ (i : Instr) (w : Width) where
-  sized : (r : Row) (p : Bool) (n : ℕ) (m : Option Rm) (v : ℕ) → ((x : Rm) → build r (half_of w) p n (rm_or m x) v ≡ Some i) → can_half r ≡ full_of w → rep_fits r p ≡ true → fits_middle (middle_of r) n ≡ true → is_plain r n m ≡ true → Means i (record { row = r; half = half_of w; rep = p; middle = n; rm = m; imm = v })
-  sized r p n m v b h e q x = record { built = b; suits = record { half = rw h (half_ok w); rep = e; middle = q }; plain = x }
+  sized : (r : Row) (p : Bool) (n : ℕ) (m : Option Rm) (v : ℕ) → ((x : Rm) → build r (operand_size_of w) p n (rm_or m x) v ≡ Some i) → has_operand_size r ≡ w_bit w → rep_fits r p ≡ true → fits_reg_field (reg_field_of r) n ≡ true → is_plain r n m ≡ true → Means i (record { row = r; operand_size = operand_size_of w; rep = p; reg_field = n; rm = m; imm = v })
+  sized r p n m v b h e q x = record { built = b; suits = record { operand_size = rw h (operand_size_ok w); rep = e; reg_field = q }; plain = x }
 
 -- a row that knows no 66
 module _ (i : Instr) where
-  fixed : (r : Row) (t : Bool) (n : ℕ) (m : Option Rm) (v : ℕ) → ((x : Rm) → build r false t n (rm_or m x) v ≡ Some i) → rep_fits r t ≡ true → fits_middle (middle_of r) n ≡ true → is_plain r n m ≡ true → Means i (record { row = r; half = false; rep = t; middle = n; rm = m; imm = v })
-  fixed r t n m v b p q x = record { built = b; suits = record { half = refl; rep = p; middle = q }; plain = x }
+  fixed : (r : Row) (t : Bool) (n : ℕ) (m : Option Rm) (v : ℕ) → ((x : Rm) → build r false t n (rm_or m x) v ≡ Some i) → rep_fits r t ≡ true → fits_reg_field (reg_field_of r) n ≡ true → is_plain r n m ≡ true → Means i (record { row = r; operand_size = false; rep = t; reg_field = n; rm = m; imm = v })
+  fixed r t n m v b p q x = record { built = b; suits = record { operand_size = refl; rep = p; reg_field = q }; plain = x }
 
 -- a row of widths Two and Four alone
 module _ (i : Width → Instr) (r : Row) (n : ℕ) (m : Option Rm) (v : ℕ) where
-  wide : ((h : Bool) (x : Rm) → build r h false n (rm_or m x) v ≡ Some (i (width_of true h))) → can_half r ≡ true → rep_fits r false ≡ true → fits_middle (middle_of r) n ≡ true → is_plain r n m ≡ true → (w : Width) → AllMean (i w) (not_one w (record { row = r; half = half_of w; rep = false; middle = n; rm = m; imm = v } ∷ []))
+  wide : ((h : Bool) (x : Rm) → build r h false n (rm_or m x) v ≡ Some (i (width_of true h))) → has_operand_size r ≡ true → rep_fits r false ≡ true → fits_reg_field (reg_field_of r) n ≡ true → is_plain r n m ≡ true → (w : Width) → AllMean (i w) (not_one w (record { row = r; operand_size = operand_size_of w; rep = false; reg_field = n; rm = m; imm = v } ∷ []))
   wide b h p q x One = tt
-  wide b h p q x Two = (record { built = b true; suits = record { half = h; rep = p; middle = q }; plain = x }, tt)
-  wide b h p q x Four = (record { built = b false; suits = record { half = refl; rep = p; middle = q }; plain = x }, tt)
+  wide b h p q x Two = (record { built = b true; suits = record { operand_size = h; rep = p; reg_field = q }; plain = x }, tt)
+  wide b h p q x Four = (record { built = b false; suits = record { operand_size = refl; rep = p; reg_field = q }; plain = x }, tt)
 
-alu_to_reg_mean : (op : AluOp) (w : Width) (to : Rm) (m : Rm) → AllMean (instr.Alu op w to (src_of m)) (if_reg to (λ t. with_rm (row.AluToReg op (full_of w)) w (number_of_reg t) m 0 ∷ []))
+alu_to_reg_mean : (op : AluOp) (w : Width) (to : Rm) (m : Rm) → AllMean (instr.Alu op w to (src_of m)) (if_reg to (λ t. with_rm (row.AluToReg op (w_bit w)) w (number_of_reg t) m 0 ∷ []))
 alu_to_reg_mean op w (rm.Reg t) m = (sized _ w _ _ _ _ _ (λ x. rw (widths, reg_of-number) refl) refl refl refl refl, tt)
 alu_to_reg_mean op w (rm.Mem a) m = tt
 
-alu_acc_mean : (op : AluOp) (w : Width) (to : Rm) (v : ℕ) → AllMean (instr.Alu op w to (src.Imm v)) (if_acc to (plain (row.AluAcc op (full_of w)) w v))
+alu_acc_mean : (op : AluOp) (w : Width) (to : Rm) (v : ℕ) → AllMean (instr.Alu op w to (src.Imm v)) (if_acc to (plain (row.AluAcc op (w_bit w)) w v))
 alu_acc_mean op w (rm.Reg reg.Eax) v = (sized _ w _ _ _ _ _ (λ x. rw widths refl) refl refl refl refl, tt)
 alu_acc_mean op w (rm.Reg _) v = tt
 alu_acc_mean op w (rm.Mem a) v = tt
@@ -109,7 +109,7 @@ alu_mean op w to (src.Reg r) = (sized _ w _ _ _ _ _ (λ x. rw (widths, reg_of-nu
 alu_mean op w to (src.Mem a) = alu_to_reg_mean op w to (rm.Mem a)
 alu_mean op w to (src.Imm v) = (sized _ w _ _ _ _ _ (λ x. rw (widths, alu_of-number) refl) refl refl refl refl, All-append _ _ _ (alu_acc_mean op w to v) (alu_byte_mean op w to v))
 
-test_acc_mean : (w : Width) (to : Rm) (v : ℕ) → AllMean (instr.Test w to (src.Imm v)) (if_acc to (plain (row.TestAcc (full_of w)) w v))
+test_acc_mean : (w : Width) (to : Rm) (v : ℕ) → AllMean (instr.Test w to (src.Imm v)) (if_acc to (plain (row.TestAcc (w_bit w)) w v))
 test_acc_mean w (rm.Reg reg.Eax) v = (sized _ w _ _ _ _ _ (λ x. rw widths refl) refl refl refl refl, tt)
 test_acc_mean w (rm.Reg _) v = tt
 test_acc_mean w (rm.Mem a) v = tt
@@ -133,7 +133,7 @@ store_mean w (rm.Mem a) reg.Eax = number_mean a.base a.index a.scale a.disp (λ 
 store_mean w (rm.Reg t) reg.Eax = tt
 store_mean w to _ = tt
 
-mov_to_reg_mean : (w : Width) (to : Rm) (r : Reg) → AllMean (instr.Mov w to (src.Reg r)) (if_reg to (λ t. with_rm (row.MovToReg (full_of w)) w (number_of_reg t) (rm.Reg r) 0 ∷ []))
+mov_to_reg_mean : (w : Width) (to : Rm) (r : Reg) → AllMean (instr.Mov w to (src.Reg r)) (if_reg to (λ t. with_rm (row.MovToReg (w_bit w)) w (number_of_reg t) (rm.Reg r) 0 ∷ []))
 mov_to_reg_mean w (rm.Reg t) r = (sized _ w _ _ _ _ _ (λ x. rw (widths, reg_of-number) refl) refl refl refl refl, tt)
 mov_to_reg_mean w (rm.Mem a) r = tt
 
@@ -184,12 +184,12 @@ pop_mean : (to : Rm) → AllMean (instr.Pop to) (forms (instr.Pop to))
 pop_mean (rm.Reg r) = (fixed _ _ _ _ _ _ (λ x. refl) refl refl refl, (fixed _ _ _ _ _ _ (λ x. refl) refl refl refl, tt))
 pop_mean (rm.Mem a) = (fixed _ _ _ _ _ _ (λ x. refl) refl refl refl, tt)
 
-exchange : (w : Width) (r : Reg) → full_of w ≡ true → fits_middle (middle_of (row.XchgAcc r)) 0 ≡ true → Means (instr.Xchg w (rm.Reg reg.Eax) r) (plain (row.XchgAcc r) w 0)
+exchange : (w : Width) (r : Reg) → w_bit w ≡ true → fits_reg_field (reg_field_of (row.XchgAcc r)) 0 ≡ true → Means (instr.Xchg w (rm.Reg reg.Eax) r) (plain (row.XchgAcc r) w 0)
 exchange One r h e = absurd cc
 exchange Two r h e = sized _ Two _ _ _ _ _ (λ x. refl) refl refl e refl
 exchange Four r h e = sized _ Four _ _ _ _ _ (λ x. refl) refl refl e refl
 
-other_mean : (w : Width) (r : Reg) → full_of w ≡ true → AllMean (instr.Xchg w (rm.Reg reg.Eax) r) (other_reg r (plain (row.XchgAcc r) w 0))
+other_mean : (w : Width) (r : Reg) → w_bit w ≡ true → AllMean (instr.Xchg w (rm.Reg reg.Eax) r) (other_reg r (plain (row.XchgAcc r) w 0))
 other_mean w reg.Eax h = tt
 other_mean w reg.Ecx h = (exchange w _ h refl, tt)
 other_mean w reg.Edx h = (exchange w _ h refl, tt)
@@ -199,7 +199,7 @@ other_mean w reg.Ebp h = (exchange w _ h refl, tt)
 other_mean w reg.Esi h = (exchange w _ h refl, tt)
 other_mean w reg.Edi h = (exchange w _ h refl, tt)
 
-xchg_short_mean : (w : Width) (left : Rm) (r : Reg) → full_of w ≡ true → AllMean (instr.Xchg w left r) (xchg_short w left r)
+xchg_short_mean : (w : Width) (left : Rm) (r : Reg) → w_bit w ≡ true → AllMean (instr.Xchg w left r) (xchg_short w left r)
 xchg_short_mean w (rm.Reg reg.Eax) r h = other_mean w r h
 xchg_short_mean w (rm.Reg _) r h = tt
 xchg_short_mean w (rm.Mem a) r h = tt
@@ -233,8 +233,8 @@ ret_mean (suc d) = (fixed _ _ _ _ _ _ (λ x. refl) refl refl refl, tt)
 
 -- a row of one operand
 module _ (i : Instr) (r : Bool → Row) (n : ℕ) (w : Width) (m : Rm) where
-  unit_mean : build (r (full_of w)) (half_of w) false n m 0 ≡ Some i → can_half (r (full_of w)) ≡ full_of w → rep_fits (r (full_of w)) false ≡ true → fits_middle (middle_of (r (full_of w))) n ≡ true → is_plain (r (full_of w)) n (Some m) ≡ true → AllMean i (unit r n w m)
-  unit_mean b h p q x = (sized i w (r (full_of w)) false n (Some m) 0 (λ y. b) h p q x, tt)
+  unit_mean : build (r (w_bit w)) (operand_size_of w) false n m 0 ≡ Some i → has_operand_size (r (w_bit w)) ≡ w_bit w → rep_fits (r (w_bit w)) false ≡ true → fits_reg_field (reg_field_of (r (w_bit w))) n ≡ true → is_plain (r (w_bit w)) n (Some m) ≡ true → AllMean i (unit r n w m)
+  unit_mean b h p q x = (sized i w (r (w_bit w)) false n (Some m) 0 (λ y. b) h p q x, tt)
 
 pub forms_mean : (i : Instr) → AllMean i (forms i)
 forms_mean (instr.Alu op w to from) = alu_mean op w to from

@@ -60,11 +60,11 @@ rm_is_fit o h = cond_both (ltb o.m 0xC0) (rm.Mem (address o.m o.sib o.disp)) (rm
 
 -- ---- what fits is spelled
 
--- an operand with that middle field that says that
+-- an operand with that reg field that says that
 pub record Shown (n : ℕ) (x : Rm) : Type 0 where
   pub operand : Operand
   pub is : IsOperand operand
-  pub middle : operand.m / 8 % 8 ≡ n
+  pub reg_field : operand.m / 8 % 8 ≡ n
   pub rm : rm_of operand.m operand.sib operand.disp ≡ x
 
 -- the scale's two bits
@@ -151,7 +151,7 @@ module _ (n : ℕ) (low : n < 8) where
       record {
         operand = record { m = m; sib = s; disp = d };
         is = record { m = omega arith; sib = sl; none = λ e. absurd (false≢true (sym e ∙ there)); disp = subst (λ (k : ℕ). d < 256 ^ k) (sym size) dl };
-        middle = mn;
+        reg_field = mn;
         rm = rm_again m s d b x sc (lt-ltb m 0xC0 lt) eb ex es (ap (λ (k : ℕ). disp_of k d) size);
       }
 
@@ -193,7 +193,7 @@ module _ (n : ℕ) (low : n < 8) where
       record {
         operand = record { m = m; sib = 0; disp = 0 };
         is = record { m = omega arith; sib = lit< tt; none = λ e. refl; disp = subst (λ (k : ℕ). 0 < 256 ^ k) (sym size) (lit< tt) };
-        middle = omega arith;
+        reg_field = omega arith;
         rm = rw (high, base, reg_of-number) refl;
       }
 

@@ -19,19 +19,19 @@ use Rattle.x86_grammar.specs.Rows.{has_operand}
 use Rattle.x86_grammar.specs.Attributes.{imm_size}
 use Rattle.x86_grammar.specs.Meaning.{build}
 use Rattle.x86_grammar.specs.Operand.{le, from_le, rm_of, has_sib, disp_size, mod_size, sibs, low_of}
-use Rattle.x86_grammar.specs.Spells.{half_in, prefixes_fit}
-use Rattle.x86_grammar.specs.Reading.{Cut, numbers, sib_at, after_m, of_row, m_at, plain_at, after_opcode, least_disp, easiest}
+use Rattle.x86_grammar.specs.Spells.{operand_size_in, prefixes_fit}
+use Rattle.x86_grammar.specs.Reading.{AsksWithin, numbers, sib_at, after_m, of_row, m_at, plain_at, after_opcode, least_disp, easiest}
 use Rattle.x86_grammar.proofs.LittleEndian.{length-le, from_le-le}
 use Rattle.x86_grammar.proofs.Map.{some_row, none_row, members_have}
 
 -- A reader gives i at the text, whatever follows, and asks for bytes at each front of it.
 pub record Sees (f : List ℕ → Seen) (t : List ℕ) (i : Instr) : Type 0 where
   pub whole : (rest : List ℕ) → f (t ++ rest) ≡ Found i (length rest)
-  pub cut : (a z : List ℕ) → t ≡ a ++ z → 0 < length z → Cut (f a) (length z)
+  pub cut : (a z : List ℕ) → t ≡ a ++ z → 0 < length z → AsksWithin (f a) (length z)
 
-module _ (f g : List ℕ → Seen) (x : ℕ) (t : List ℕ) (i : Instr) (step : (bytes : List ℕ) → f (x ∷ bytes) ≡ g bytes) (empty : Cut (f []) (suc (length t))) (s : Sees g t i) where
-  cons_cut : (a z : List ℕ) → x ∷ t ≡ a ++ z → 0 < length z → Cut (f a) (length z)
-  cons_cut [] z e lt = subst (λ (n : ℕ). Cut (f []) n) (ap length e) empty
+module _ (f g : List ℕ → Seen) (x : ℕ) (t : List ℕ) (i : Instr) (step : (bytes : List ℕ) → f (x ∷ bytes) ≡ g bytes) (empty : AsksWithin (f []) (suc (length t))) (s : Sees g t i) where
+  cons_cut : (a z : List ℕ) → x ∷ t ≡ a ++ z → 0 < length z → AsksWithin (f a) (length z)
+  cons_cut [] z e lt = subst (λ (n : ℕ). AsksWithin (f []) n) (ap length e) empty
   cons_cut (y ∷ a) z e lt =
       let c = s.cut a z (cc) lt in
       let first : y ≡ x = (cc) in
@@ -52,10 +52,10 @@ Sees-as f g t i e s = record {
 
 module _ (r : Row) (c : Counts) (m s : ℕ) where
   abbrev pub number_size : ℕ
-  number_size = imm_size r (half_in r c)
+  number_size = imm_size r (operand_size_in r c)
 
   abbrev pub built : ℕ → ℕ → Option Instr
-  built d v = build r (half_in r c) (eqb c.repeats 1) (m / 8 % 8) (rm_of m s d) v
+  built d v = build r (operand_size_in r c) (eqb c.repeats 1) (m / 8 % 8) (rm_of m s d) v
 
   numbers_whole : (size d v : ℕ) (i : Instr) → d < 256 ^ size → v < 256 ^ number_size → built d v ≡ Some i → (rest : List ℕ) → numbers r c m s size ((le size d ++ le number_size v) ++ rest) ≡ Found i (length rest)
   unfolding numbers
@@ -70,7 +70,7 @@ module _ (r : Row) (c : Counts) (m s : ℕ) where
       let fv : from_le number_size (le number_size v ++ rest) ≡ v = from_le-le number_size v rest vlt in
       ap (numbers r c m s size) (append_assoc (le size d) (le number_size v) rest) ∙ rw (long, fd, dr, fv, b, left) refl
 
-  numbers_cut : (size d v : ℕ) (a z : List ℕ) → le size d ++ le number_size v ≡ a ++ z → 0 < length z → Cut (numbers r c m s size a) (length z)
+  numbers_cut : (size d v : ℕ) (a z : List ℕ) → le size d ++ le number_size v ≡ a ++ z → 0 < length z → AsksWithin (numbers r c m s size a) (length z)
   unfolding numbers
   numbers_cut size d v a z e lt =
       let ld = length-le size d in
@@ -121,9 +121,9 @@ module _ (r : Row) (c : Counts) (m : ℕ) where
 -- what it is to each other
 record Easier (r q : Row) (c : Counts) : Type 0 where
   fits : prefixes_fit r c ≡ true
-  least : imm_size r (half_in r c) ≤ imm_size q (half_in q c)
+  least : imm_size r (operand_size_in r c) ≤ imm_size q (operand_size_in q c)
 
-easier : (r s q : Row) (c : Counts) → (prefixes_fit s c ≡ true → prefixes_fit r c ≡ true) → imm_size r (half_in r c) ≤ imm_size s (half_in s c) → Some s ≡ Some q → prefixes_fit q c ≡ true → Easier r q c
+easier : (r s q : Row) (c : Counts) → (prefixes_fit s c ≡ true → prefixes_fit r c ≡ true) → imm_size r (operand_size_in r c) ≤ imm_size s (operand_size_in s c) → Some s ≡ Some q → prefixes_fit q c ≡ true → Easier r q c
 easier r s q c p le e f =
     let P : Row → Type 0 = λ x. prefixes_fit x c ≡ true → Easier r x c in
     subst P (some_row s q e) (λ g. record { fits = p g; least = le }) f
@@ -132,34 +132,34 @@ first_easy : (r q : Row) (c : Counts) (n : ℕ) → first_row r n ≡ Some q →
 first_easy r q c zero e f = easier r r q c (λ g. g) (omega arith) e f
 first_easy r q c (suc n) e f = absurd (none_row q e)
 
-shift_easy : (o : Option ShiftOp) (g : ShiftOp → Row) (r q : Row) (c : Counts) → ((op : ShiftOp) → prefixes_fit (g op) c ≡ true → prefixes_fit r c ≡ true) → ((op : ShiftOp) → imm_size r (half_in r c) ≤ imm_size (g op) (half_in (g op) c)) → shift_row o g ≡ Some q → prefixes_fit q c ≡ true → Easier r q c
+shift_easy : (o : Option ShiftOp) (g : ShiftOp → Row) (r q : Row) (c : Counts) → ((op : ShiftOp) → prefixes_fit (g op) c ≡ true → prefixes_fit r c ≡ true) → ((op : ShiftOp) → imm_size r (operand_size_in r c) ≤ imm_size (g op) (operand_size_in (g op) c)) → shift_row o g ≡ Some q → prefixes_fit q c ≡ true → Easier r q c
 shift_easy None g r q c p le e f = absurd (none_row q e)
 shift_easy (Some op) g r q c p le e f = easier r (g op) q c (p op) (le op) e f
 
-unit_easy : (full : Bool) (q : Row) (c : Counts) (n : ℕ) → unit_row full n ≡ Some q → prefixes_fit q c ≡ true → Easier (row.Not full) q c
-unit_easy full q c zero e f = easier _ _ q c (λ g. g) (omega arith) e f
-unit_easy full q c (suc zero) e f = absurd (none_row q e)
-unit_easy full q c (suc (suc zero)) e f = easier _ _ q c (λ g. g) (omega arith) e f
-unit_easy full q c (suc (suc (suc zero))) e f = easier _ _ q c (λ g. g) (omega arith) e f
-unit_easy full q c (suc (suc (suc (suc zero)))) e f = easier _ _ q c (λ g. g) (omega arith) e f
-unit_easy full q c (suc (suc (suc (suc (suc zero))))) e f = easier _ _ q c (λ g. g) (omega arith) e f
-unit_easy full q c (suc (suc (suc (suc (suc (suc zero)))))) e f = easier _ _ q c (λ g. g) (omega arith) e f
-unit_easy full q c (suc (suc (suc (suc (suc (suc (suc zero))))))) e f = easier _ _ q c (λ g. g) (omega arith) e f
-unit_easy full q c (suc (suc (suc (suc (suc (suc (suc (suc n)))))))) e f = absurd (none_row q e)
+unit_easy : (w : Bool) (q : Row) (c : Counts) (n : ℕ) → unit_row w n ≡ Some q → prefixes_fit q c ≡ true → Easier (row.Not w) q c
+unit_easy w q c zero e f = easier _ _ q c (λ g. g) (omega arith) e f
+unit_easy w q c (suc zero) e f = absurd (none_row q e)
+unit_easy w q c (suc (suc zero)) e f = easier _ _ q c (λ g. g) (omega arith) e f
+unit_easy w q c (suc (suc (suc zero))) e f = easier _ _ q c (λ g. g) (omega arith) e f
+unit_easy w q c (suc (suc (suc (suc zero)))) e f = easier _ _ q c (λ g. g) (omega arith) e f
+unit_easy w q c (suc (suc (suc (suc (suc zero))))) e f = easier _ _ q c (λ g. g) (omega arith) e f
+unit_easy w q c (suc (suc (suc (suc (suc (suc zero)))))) e f = easier _ _ q c (λ g. g) (omega arith) e f
+unit_easy w q c (suc (suc (suc (suc (suc (suc (suc zero))))))) e f = easier _ _ q c (λ g. g) (omega arith) e f
+unit_easy w q c (suc (suc (suc (suc (suc (suc (suc (suc n)))))))) e f = absurd (none_row q e)
 
 -- the test of the prefixes for a member of FE and FF
 abbrev step_fit : Bool → Bool → Counts → Bool
-step_fit half hint c = ((eqb c.halves 0 || (eqb c.halves 1 && half)) || false) && (eqb c.segments 0 || false) && (eqb c.hints 0 || (eqb c.hints 1 && hint)) && ltb c.repeats 2 && not (eqb c.repeats 1)
+step_fit operand_size hint c = ((eqb c.operand_sizes 0 || (eqb c.operand_sizes 1 && operand_size)) || false) && (eqb c.segments 0 || false) && (eqb c.hints 0 || (eqb c.hints 1 && hint)) && ltb c.repeats 2 && not (eqb c.repeats 1)
 
-no_hint_bools : (a b d x y e f half hint : Bool) → x ≡ true → ((a || (b && half)) || false) && (d || false) && (x || (y && hint)) && e && f ≡ true → ((a || (b && true)) || false) && (d || false) && (x || (y && false)) && e && f ≡ true
-no_hint_bools true b d true y e f half hint q h = h
+no_hint_bools : (a b d x y e f operand_size hint : Bool) → x ≡ true → ((a || (b && operand_size)) || false) && (d || false) && (x || (y && hint)) && e && f ≡ true → ((a || (b && true)) || false) && (d || false) && (x || (y && false)) && e && f ≡ true
+no_hint_bools true b d true y e f operand_size hint q h = h
 no_hint_bools false true d true y e f true hint q h = h
 no_hint_bools false true d true y e f false hint q h = absurd (false≢true h)
-no_hint_bools false false d true y e f half hint q h = absurd (false≢true h)
-no_hint_bools a b d false y e f half hint q h = absurd (false≢true q)
+no_hint_bools false false d true y e f operand_size hint q h = absurd (false≢true h)
+no_hint_bools a b d false y e f operand_size hint q h = absurd (false≢true q)
 
-no_hint_fit : (half hint : Bool) (c : Counts) → eqb c.hints 0 ≡ true → step_fit half hint c ≡ true → step_fit true false c ≡ true
-no_hint_fit half hint c q e = no_hint_bools (eqb c.halves 0) (eqb c.halves 1) (eqb c.segments 0) (eqb c.hints 0) (eqb c.hints 1) (ltb c.repeats 2) (not (eqb c.repeats 1)) half hint q e
+no_hint_fit : (operand_size hint : Bool) (c : Counts) → eqb c.hints 0 ≡ true → step_fit operand_size hint c ≡ true → step_fit true false c ≡ true
+no_hint_fit operand_size hint c q e = no_hint_bools (eqb c.operand_sizes 0) (eqb c.operand_sizes 1) (eqb c.segments 0) (eqb c.hints 0) (eqb c.hints 1) (ltb c.repeats 2) (not (eqb c.repeats 1)) operand_size hint q e
 
 hint_bools : (a d x y e f : Bool) → x ≡ false → a && d && (x || (y && false)) && e && f ≡ true → ⊥
 hint_bools false d x y e f q h = absurd (false≢true h)
@@ -168,21 +168,21 @@ hint_bools true true true y e f q h = absurd (false≢true (sym q))
 hint_bools true true false true e f q h = absurd (false≢true h)
 hint_bools true true false false e f q h = absurd (false≢true h)
 
-hint_fit : (half : Bool) (c : Counts) → eqb c.hints 0 ≡ false → step_fit half false c ≡ true → ⊥
-hint_fit half c q e = hint_bools ((eqb c.halves 0 || (eqb c.halves 1 && half)) || false) (eqb c.segments 0 || false) (eqb c.hints 0) (eqb c.hints 1) (ltb c.repeats 2) (not (eqb c.repeats 1)) q e
+hint_fit : (operand_size : Bool) (c : Counts) → eqb c.hints 0 ≡ false → step_fit operand_size false c ≡ true → ⊥
+hint_fit operand_size c q e = hint_bools ((eqb c.operand_sizes 0 || (eqb c.operand_sizes 1 && operand_size)) || false) (eqb c.segments 0 || false) (eqb c.hints 0) (eqb c.hints 1) (ltb c.repeats 2) (not (eqb c.repeats 1)) q e
 
 module _ (c : Counts) (q : Row) (f : prefixes_fit q c ≡ true) where
   -- a row that knows no 3E
-  no_hint_easy : (x half : Bool) (s : Row) → eqb c.hints 0 ≡ x → (prefixes_fit s c ≡ true → step_fit half false c ≡ true) → Some s ≡ Some q → Easier (cond x (row.Inc true) row.CallTo) q c
-  no_hint_easy true half s b p e = easier (row.Inc true) s q c (λ g. no_hint_fit half false c b (p g)) (omega arith) e f
-  no_hint_easy false half s b p e = easier row.CallTo s q c (λ g. absurd (hint_fit half c b (p g))) (omega arith) e f
+  no_hint_easy : (x operand_size : Bool) (s : Row) → eqb c.hints 0 ≡ x → (prefixes_fit s c ≡ true → step_fit operand_size false c ≡ true) → Some s ≡ Some q → Easier (cond x (row.Inc true) row.CallTo) q c
+  no_hint_easy true operand_size s b p e = easier (row.Inc true) s q c (λ g. no_hint_fit operand_size false c b (p g)) (omega arith) e f
+  no_hint_easy false operand_size s b p e = easier row.CallTo s q c (λ g. absurd (hint_fit operand_size c b (p g))) (omega arith) e f
 
   -- a row that knows one
   hint_easy : (x : Bool) (s : Row) → eqb c.hints 0 ≡ x → (prefixes_fit s c ≡ true → step_fit false true c ≡ true) → Some s ≡ Some q → Easier (cond x (row.Inc true) row.CallTo) q c
   hint_easy true s b p e = easier (row.Inc true) s q c (λ g. no_hint_fit false true c b (p g)) (omega arith) e f
   hint_easy false s b p e = easier row.CallTo s q c p (omega arith) e f
 
-  step_easy : (full : Bool) (n : ℕ) → step_row full n ≡ Some q → Easier (easiest (group.Steps full) c) q c
+  step_easy : (w : Bool) (n : ℕ) → step_row w n ≡ Some q → Easier (easiest (group.Steps w) c) q c
   step_easy false zero e = easier _ _ q c (λ g. g) (omega arith) e f
   step_easy false (suc zero) e = easier _ _ q c (λ g. g) (omega arith) e f
   step_easy true zero e = no_hint_easy (eqb c.hints 0) true (row.Inc true) refl (λ g. g) e
@@ -197,12 +197,12 @@ module _ (c : Counts) (q : Row) (f : prefixes_fit q c ≡ true) where
 
   members_easy : (g : Group) (n : ℕ) → member_of g n ≡ Some q → Easier (easiest g c) q c
   members_easy group.Pops n e = first_easy _ q c n e f
-  members_easy (group.Moves full) n e = first_easy _ q c n e f
-  members_easy (group.Units full) n e = unit_easy full q c n e f
-  members_easy (group.Steps full) n e = step_easy full n e
-  members_easy (group.ShiftsImm full) n e = shift_easy _ _ (row.ShiftImm Rol full) q c (λ op g. g) (λ op. omega arith) e f
-  members_easy (group.ShiftsOne full) n e = shift_easy _ _ (row.ShiftOne Rol full) q c (λ op g. g) (λ op. omega arith) e f
-  members_easy (group.ShiftsCl full) n e = shift_easy _ _ (row.ShiftCl Rol full) q c (λ op g. g) (λ op. omega arith) e f
+  members_easy (group.Moves w) n e = first_easy _ q c n e f
+  members_easy (group.Units w) n e = unit_easy w q c n e f
+  members_easy (group.Steps w) n e = step_easy w n e
+  members_easy (group.ShiftsImm w) n e = shift_easy _ _ (row.ShiftImm Rol w) q c (λ op g. g) (λ op. omega arith) e f
+  members_easy (group.ShiftsOne w) n e = shift_easy _ _ (row.ShiftOne Rol w) q c (λ op g. g) (λ op. omega arith) e f
+  members_easy (group.ShiftsCl w) n e = shift_easy _ _ (row.ShiftCl Rol w) q c (λ op g. g) (λ op. omega arith) e f
   members_easy (group.Sets a) n e = first_easy _ q c n e f
   members_easy group.Nops n e = first_easy _ q c n e f
 
@@ -215,9 +215,9 @@ row_in_cases (entry.One q) n r h = inl (ap entry.One (some_row q r h))
 row_in_cases (entry.By g) n r h = inr (g, refl, h)
 
 module _ (r : Row) (c : Counts) (e : Entry) (p : prefixes_fit r c ≡ true) where
-  m_at_sees : (q : Row) (m : ℕ) (t : List ℕ) (i : Instr) → row_in e (m / 8 % 8) ≡ Some r → prefixes_fit q c ≡ true → imm_size q (half_in q c) ≤ length t → Sees (after_m r c m) t i → Sees (m_at e q c) (m ∷ t) i
+  m_at_sees : (q : Row) (m : ℕ) (t : List ℕ) (i : Instr) → row_in e (m / 8 % 8) ≡ Some r → prefixes_fit q c ≡ true → imm_size q (operand_size_in q c) ≤ length t → Sees (after_m r c m) t i → Sees (m_at e q c) (m ∷ t) i
   unfolding m_at
-  m_at_sees q m t i h f le s = Sees-cons (m_at e q c) (after_m r c m) m t i (λ bytes. ap (λ (o : Option Row). of_row o c m bytes) h) (record { wanted = 1 + imm_size q (half_in q c); is = rw f refl; least = omega arith }) s
+  m_at_sees q m t i h f le s = Sees-cons (m_at e q c) (after_m r c m) m t i (λ bytes. ap (λ (o : Option Row). of_row o c m bytes) h) (record { wanted = 1 + imm_size q (operand_size_in q c); is = rw f refl; least = omega arith }) s
 
   pub opcode_sees : (m s d v : ℕ) (i : Instr) → has_operand r ≡ true → row_in e (m / 8 % 8) ≡ Some r → (has_sib m ≡ false → s ≡ 0) → d < 256 ^ disp_size m s → v < 256 ^ number_size r c m s → built r c m s d v ≡ Some i → Sees (after_opcode e c) (m ∷ behind_m r c m s d v) i
   unfolding after_opcode

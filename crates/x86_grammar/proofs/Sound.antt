@@ -8,11 +8,11 @@ use Rattle.x86_grammar.specs.declared.row.Row.{Row}
 use Rattle.x86_grammar.specs.declared.row.Row.TheVariants as row
 use Rattle.x86_grammar.specs.declared.row.Counts.{Counts}
 use Rattle.x86_grammar.specs.declared.reading.Seen.TheVariants.{Found, Needs}
-use Rattle.x86_grammar.specs.Attributes.{can_half, imm_size, rep_fits, any_halves, any_segments, can_hint}
+use Rattle.x86_grammar.specs.Attributes.{has_operand_size, imm_size, rep_fits, any_operand_sizes, any_segments, can_hint}
 use Rattle.x86_grammar.specs.Operand.{le, rm_of}
-use Rattle.x86_grammar.specs.Reading.{AreBytes, Gave, Wants, needs, after_opcode, after_escape, at_opcode, read_from, read}
-use Rattle.x86_grammar.specs.Rows.{key_of, has_operand}
-use Rattle.x86_grammar.specs.Spells.{is_prefix, more, no_counts, counts_of, prefixes_fit, half_in, opcode_bytes, operand_part, Spelling, Spells}
+use Rattle.x86_grammar.specs.Reading.{AreBytes, Gave, SpelledWithMore, needs, after_opcode, after_escape, at_opcode, read_from, read}
+use Rattle.x86_grammar.specs.Rows.{opcode_of, has_operand}
+use Rattle.x86_grammar.specs.Spells.{is_prefix, more, no_counts, counts_of, prefixes_fit, operand_size_in, opcode_bytes, operand_part, Spelling, Spells}
 use Rattle.x86_grammar.specs.Table.{entry_of}
 use Rattle.x86_grammar.proofs.Among.{Parts, form_of, shown, shown_if, in_forms}
 use Rattle.x86_grammar.proofs.Map.{row_right}
@@ -32,7 +32,7 @@ needs_some (Some n) k e = let q : n ≡ k = (cc) in ap (λ (x : ℕ). let o : Op
 
 escape_tells : (c : Counts) → Tells (after_escape c) (Escaped c)
 unfolding after_escape
-escape_tells c = Tells-cons (after_escape c) (λ b. after_opcode (entry_of (0x100 + b)) c) (Escaped c) (λ b. Spelled (entry_of (0x100 + b)) c) (λ b bytes. refl) (λ b lt. opcode_tells (entry_of (0x100 + b)) c) (λ b t i lt x. escaped_here c b t i lt x) (λ i left e. needs_no _ i left e) (λ k e. escaped_wants c.halves c.segments c.hints c.repeats k (needs_some _ k e))
+escape_tells c = Tells-cons (after_escape c) (λ b. after_opcode (entry_of (0x100 + b)) c) (Escaped c) (λ b. Spelled (entry_of (0x100 + b)) c) (λ b bytes. refl) (λ b lt. opcode_tells (entry_of (0x100 + b)) c) (λ b t i lt x. escaped_here c b t i lt x) (λ i left e. needs_no _ i left e) (λ k e. escaped_wants c.operand_sizes c.segments c.hints c.repeats k (needs_some _ k e))
 
 at_tells : (c : Counts) (b : ℕ) → b < 256 → Tells (at_opcode c b) (λ t i. Prefixed c (b ∷ t) i)
 unfolding at_opcode
@@ -45,7 +45,7 @@ at_tells c b lt =
 -- ---- the prefixes
 
 more_prefixed : (c : Counts) (b : ℕ) (t : List ℕ) (i : Instr) → is_prefix b ≡ true → Prefixed (more c b) t i → Prefixed c (b ∷ t) i
-more_prefixed c b t i p x = record { prefixes = b ∷ x.prefixes; key = x.key; text = x.text; all = (p, x.all); small = x.small; behind = x.behind; is = ap (λ (y : List ℕ). b ∷ y) x.is }
+more_prefixed c b t i p x = record { prefixes = b ∷ x.prefixes; opcode = x.opcode; text = x.text; all = (p, x.all); small = x.small; behind = x.behind; is = ap (λ (y : List ℕ). b ∷ y) x.is }
 
 from_found : (bytes : List ℕ) (c : Counts) (i : Instr) (left : ℕ) → AreBytes bytes → read_from c bytes ≡ Found i left → Begins (Prefixed c) bytes i left
 unfolding read_from
@@ -60,7 +60,7 @@ from_found (b ∷ bytes) c i left h e =
 
 from_needs : (bytes : List ℕ) (c : Counts) (k : ℕ) → AreBytes bytes → read_from c bytes ≡ Needs k → Lacks (Prefixed c) bytes k
 unfolding read_from
-from_needs [] c k h e = opcode_wants c.halves c.segments c.hints c.repeats k (needs_some _ k e)
+from_needs [] c k h e = opcode_wants c.operand_sizes c.segments c.hints c.repeats k (needs_some _ k e)
 from_needs (b ∷ bytes) c k h e =
     elim (cases_Bool (is_prefix b)) [
       | inl p ↦ let g = from_needs bytes (more c b) k h.1 (rw p at e) in
@@ -79,11 +79,11 @@ shows_rm : (r : Row) (m : Rm) → IfSome (shown r m) (λ x. m ≡ x)
 shows_rm row.NopLong m = tt
 shows_rm r m = shows_if (has_operand r) m
 
-half_suits : (a h : Bool) → (not (h && a) || a) ≡ true
-half_suits true true = refl
-half_suits true false = refl
-half_suits false true = refl
-half_suits false false = refl
+operand_size_suits : (a h : Bool) → (not (h && a) || a) ≡ true
+operand_size_suits true true = refl
+operand_size_suits true false = refl
+operand_size_suits false true = refl
+operand_size_suits false false = refl
 
 last_of : (a b c d e : Bool) → (a && b && c && d && e) ≡ true → e ≡ true
 last_of true true true true e h = h
@@ -93,7 +93,7 @@ last_of true true false d e h = absurd (false≢true h)
 last_of true true true false e h = absurd (false≢true h)
 
 rep_of : (r : Row) (c : Counts) → prefixes_fit r c ≡ true → rep_fits r (eqb c.repeats 1) ≡ true
-rep_of r c e = last_of ((eqb c.halves 0 || (eqb c.halves 1 && can_half r)) || any_halves r) (eqb c.segments 0 || any_segments r) (eqb c.hints 0 || (eqb c.hints 1 && can_hint r)) (ltb c.repeats 2) _ e
+rep_of r c e = last_of ((eqb c.operand_sizes 0 || (eqb c.operand_sizes 1 && has_operand_size r)) || any_operand_sizes r) (eqb c.segments 0 || any_segments r) (eqb c.hints 0 || (eqb c.hints 1 && can_hint r)) (ltb c.repeats 2) _ e
 
 part_is : (b : Bool) (m s d : ℕ) → part b m s d ≡ operand_part b (record { m = m; sib = s; disp = d })
 part_is true m s d = refl
@@ -106,33 +106,33 @@ module _ (t : List ℕ) (i : Instr) (w : Prefixed no_counts t i) where
   abbrev n : ℕ
   n = w.behind.m / 8 % 8
 
-  key-is : key_of w.behind.row ≡ w.key
-  key-is = (row_right w.key n w.behind.row w.small (omega arith) w.behind.there).0
+  opcode-is : opcode_of w.behind.row ≡ w.opcode
+  opcode-is = (row_right w.opcode n w.behind.row w.small (omega arith) w.behind.there).0
 
-  the_parts : Parts w.behind.row (half_in w.behind.row c) (eqb c.repeats 1) n w.behind.v
+  the_parts : Parts w.behind.row (operand_size_in w.behind.row c) (eqb c.repeats 1) n w.behind.v
   the_parts = record {
-    suits = record { half = half_suits (can_half w.behind.row) (eqb c.halves 1); rep = rep_of w.behind.row c w.behind.fits; middle = (row_right w.key n w.behind.row w.small (omega arith) w.behind.there).1 };
-    middle = omega arith;
+    suits = record { operand_size = operand_size_suits (has_operand_size w.behind.row) (eqb c.operand_sizes 1); rep = rep_of w.behind.row c w.behind.fits; reg_field = (row_right w.opcode n w.behind.row w.small (omega arith) w.behind.there).1 };
+    reg_field = omega arith;
     known = λ e. ap (λ (m : ℕ). m / 8 % 8) (w.behind.plain e);
-    number = w.behind.imm;
+    imm = w.behind.imm;
   }
 
   abbrev the_spelling : Spelling
-  the_spelling = record { prefixes = w.prefixes; form = form_of w.behind.row (half_in w.behind.row c) (eqb c.repeats 1) n (rm_of w.behind.m w.behind.s w.behind.d) w.behind.v; operand = record { m = w.behind.m; sib = w.behind.s; disp = w.behind.d } }
+  the_spelling = record { prefixes = w.prefixes; form = form_of w.behind.row (operand_size_in w.behind.row c) (eqb c.repeats 1) n (rm_of w.behind.m w.behind.s w.behind.d) w.behind.v; operand = record { m = w.behind.m; sib = w.behind.s; disp = w.behind.d } }
 
   whole_spells : length t ≤ 15 → Spells t i
   whole_spells short = record {
     spelling = the_spelling;
     right = record {
-      among = in_forms w.behind.row (half_in w.behind.row c) (eqb c.repeats 1) n (rm_of w.behind.m w.behind.s w.behind.d) w.behind.v i the_parts w.behind.means;
+      among = in_forms w.behind.row (operand_size_in w.behind.row c) (eqb c.repeats 1) n (rm_of w.behind.m w.behind.s w.behind.d) w.behind.v i the_parts w.behind.means;
       prefixes = w.all;
       fit = w.behind.fits;
-      half = refl;
+      operand_size = refl;
       rep = refl;
-      operand = λ e. record { is = record { m = w.behind.m_fits; sib = w.behind.sib; none = w.behind.none; disp = w.behind.disp }; middle = refl; rm = shows_rm w.behind.row (rm_of w.behind.m w.behind.s w.behind.d) };
-      number = w.behind.imm;
+      operand = λ e. record { is = record { m = w.behind.m_fits; sib = w.behind.sib; none = w.behind.none; disp = w.behind.disp }; reg_field = refl; rm = shows_rm w.behind.row (rm_of w.behind.m w.behind.s w.behind.d) };
+      imm = w.behind.imm;
     };
-    bytes_are = w.is ∙ ap (λ (k : ℕ). w.prefixes ++ (opcode_bytes k ++ w.text)) (sym key-is) ∙ ap (λ (y : List ℕ). w.prefixes ++ (opcode_bytes (key_of w.behind.row) ++ y)) (w.behind.is ∙ ap (λ (y : List ℕ). y ++ le (imm_size w.behind.row (half_in w.behind.row c)) w.behind.v) (part_is (has_operand w.behind.row) w.behind.m w.behind.s w.behind.d));
+    bytes_are = w.is ∙ ap (λ (k : ℕ). w.prefixes ++ (opcode_bytes k ++ w.text)) (sym opcode-is) ∙ ap (λ (y : List ℕ). w.prefixes ++ (opcode_bytes (opcode_of w.behind.row) ++ y)) (w.behind.is ∙ ap (λ (y : List ℕ). y ++ le (imm_size w.behind.row (operand_size_in w.behind.row c)) w.behind.v) (part_is (has_operand w.behind.row) w.behind.m w.behind.s w.behind.d));
     short = short;
   }
 
@@ -143,7 +143,7 @@ read_gave bytes i left h e =
     let g = from_found bytes no_counts i left h e in
     record { text = g.text; rest = g.rest; parts = g.parts; len = g.len; spells = whole_spells g.text i g.right }
 
-pub read_wants : (bytes : List ℕ) (k : ℕ) → AreBytes bytes → read bytes ≡ Needs k → Wants bytes k
+pub read_wants : (bytes : List ℕ) (k : ℕ) → AreBytes bytes → read bytes ≡ Needs k → SpelledWithMore bytes k
 read_wants bytes k h e =
     let g = from_needs bytes no_counts k h e in
     record { more = g.more; instr = g.instr; len = g.len; some = g.some; spells = whole_spells (bytes ++ g.more) g.instr g.right }

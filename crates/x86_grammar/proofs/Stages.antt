@@ -13,7 +13,7 @@ use Rattle.x86_grammar.specs.declared.reading.Seen.TheVariants.{Found, Needs}
 use Rattle.x86_grammar.specs.Operand.{le, has_sib, disp_size, mod_size, sibs, low_of}
 use Rattle.x86_grammar.specs.Reading.{numbers, sib_at, after_m, of_row, m_at, plain_at, after_opcode, least_disp, easiest}
 use Rattle.x86_grammar.specs.Rows.{has_operand}
-use Rattle.x86_grammar.specs.Spells.{half_in, prefixes_fit}
+use Rattle.x86_grammar.specs.Spells.{operand_size_in, prefixes_fit}
 use Rattle.x86_grammar.specs.Table.{row_in}
 use Rattle.x86_grammar.proofs.LittleEndian.{length-le, pos256}
 use Rattle.x86_grammar.proofs.Map.{and_left, some_row, members_have}
@@ -70,7 +70,7 @@ module _ (r : Row) (c : Counts) (m : ℕ) (fr : free r ≡ true) where
   unfolding sib_at
   sib_start h k e =
       let k-is = needs_is _ _ e in
-      let b = builds r (half_in r c) (eqb c.repeats 1) (m / 8 % 8) m 0 0 0 fr (low h) in
+      let b = builds r (operand_size_in r c) (eqb c.repeats 1) (m / 8 % 8) m 0 0 0 fr (low h) in
       let t = le (disp_size m 0) 0 ++ le (number_size r c) 0 in
       let zero-is : low_of m 0 ≡ 0 = rw h refl in
       let least : disp_size m 0 ≡ least_disp m = rw zero-is refl in
@@ -186,7 +186,7 @@ module _ (e : Entry) (c : Counts) (ops : (n : ℕ) (r : Row) → row_in e n ≡ 
           | inr f ↦ absurd (never_needs n f.1)
           | inl p ↦
               let n-is = needs_is _ _ p.1 in
-              let i = builds q (half_in q c) (eqb c.repeats 1) (b.k / 8 % 8) b.k 0 0 0 (free_of q (ops _ q b.there)) (takes_low q b.k b.mem) in
+              let i = builds q (operand_size_in q c) (eqb c.repeats 1) (b.k / 8 % 8) b.k 0 0 0 (free_of q (ops _ q b.there)) (takes_low q b.k b.mem) in
               record { more = b.k ∷ le (number_size q c) 0; instr = i.0; len = omega (arith, length-le (number_size q c) 0, n-is); some = omega (arith, n-is); right = bare_spelled p.0 i.0 i.1 }
         ]
 
@@ -234,7 +234,7 @@ plain_at_tells r c o =
 bare_at : (e : Entry) (r : Row) → row_in e 0 ≡ Some r → Bare e r
 bare_at e r h = record { k = 0; there = h; small = lit< tt; mem = refl; bare = refl; flat = refl }
 
--- at middle field 2
+-- at reg field 2
 bare_two : (e : Entry) (r : Row) → row_in e 2 ≡ Some r → Bare e r
 bare_two e r h = record { k = 16; there = h; small = lit< tt; mem = refl; bare = refl; flat = refl }
 
@@ -243,7 +243,7 @@ bare_step true = bare_at _ _ refl
 bare_step false = bare_two _ _ refl
 
 bare_easiest : (g : Group) (c : Counts) → Bare (entry.By g) (easiest g c)
-bare_easiest (group.Units full) c = bare_two _ _ refl
+bare_easiest (group.Units w) c = bare_two _ _ refl
 bare_easiest (group.Steps false) c = bare_at _ _ refl
 bare_easiest (group.Steps true) c = bare_step (eqb c.hints 0)
 bare_easiest _ c = bare_at _ _ refl

@@ -19,7 +19,7 @@ use Rattle.x86_grammar.specs.Meaning.{build, lea}
 use Rattle.x86_grammar.specs.Operand.{le, from_le, rm_of, address}
 use Rattle.x86_grammar.specs.Reading.{AreBytes, found, numbers}
 use Rattle.x86_grammar.specs.Rows.{has_operand}
-use Rattle.x86_grammar.specs.Spells.{half_in}
+use Rattle.x86_grammar.specs.Spells.{operand_size_in}
 use Rattle.x86_grammar.proofs.LittleEndian.{bytes_drop, bytes_append, from_le-below, le-from_le}
 
 abbrev pub Texts : Type 1
@@ -113,10 +113,10 @@ bytes_zeros (suc n) = (lit< tt, bytes_zeros n)
 -- ---- the numbers at the end
 
 abbrev pub number_size : Row → Counts → ℕ
-number_size r c = imm_size r (half_in r c)
+number_size r c = imm_size r (operand_size_in r c)
 
 abbrev pub built : Row → Counts → ℕ → ℕ → ℕ → ℕ → Option Instr
-built r c m s d v = build r (half_in r c) (eqb c.repeats 1) (m / 8 % 8) (rm_of m s d) v
+built r c m s d v = build r (operand_size_in r c) (eqb c.repeats 1) (m / 8 % 8) (rm_of m s d) v
 
 pub record Ends (r : Row) (c : Counts) (m s size : ℕ) (t : List ℕ) (i : Instr) : Type 0 where
   pub d : ℕ
@@ -185,7 +185,7 @@ module _ (r : Row) (c : Counts) (m s size : ℕ) where
             let all = bytes ++ zeros k in
             let fits : AreBytes all = bytes_append bytes (zeros k) h (bytes_zeros k) in
             let len : length all ≡ size + z = omega (arith, length-append bytes (zeros k), length-zeros k, k-is) in
-            let b = builds r (half_in r c) (eqb c.repeats 1) (m / 8 % 8) m s (from_le size all) (from_le z (drop size all)) fr (tk (omega arith)) in
+            let b = builds r (operand_size_in r c) (eqb c.repeats 1) (m / 8 % 8) m s (from_le size all) (from_le z (drop size all)) fr (tk (omega arith)) in
             let two = two_numbers all fits (omega arith) in
             let nothing : drop z (drop size all) ≡ [] = nil_from_length _ (omega (arith, length-drop z (drop size all), length-drop size all)) in
             record {

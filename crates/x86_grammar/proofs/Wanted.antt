@@ -20,12 +20,12 @@ use Rattle.x86_grammar.proofs.Stages.{Spelled, opcode_tells}
 -- prefixes, an opcode, and what stands behind it
 pub record Prefixed (c : Counts) (t : List ℕ) (i : Instr) : Type 0 where
   pub prefixes : List ℕ
-  pub key : ℕ
+  pub opcode : ℕ
   pub text : List ℕ
   pub all : AllByRecursion (λ b. is_prefix b ≡ true) prefixes
-  pub small : key < 0x200
-  pub behind : Spelled (entry_of key) (counted c prefixes) text i
-  pub is : t ≡ prefixes ++ (opcode_bytes key ++ text)
+  pub small : opcode < 0x200
+  pub behind : Spelled (entry_of opcode) (counted c prefixes) text i
+  pub is : t ≡ prefixes ++ (opcode_bytes opcode ++ text)
 
 abbrev pub Escaped : Counts → Texts
 Escaped c t i = Prefixed c (0x0F ∷ t) i
@@ -39,8 +39,8 @@ two_bytes b =
     let low : 0x100 + b - 0x100 ≡ b = omega arith in
     rw (high, low) refl
 
-no_prefix_yet : (c : Counts) (key : ℕ) (t : List ℕ) (i : Instr) → key < 0x200 → Spelled (entry_of key) c t i → Prefixed c (opcode_bytes key ++ t) i
-no_prefix_yet c key t i lt x = record { prefixes = []; key = key; text = t; all = tt; small = lt; behind = x; is = refl }
+no_prefix_yet : (c : Counts) (opcode : ℕ) (t : List ℕ) (i : Instr) → opcode < 0x200 → Spelled (entry_of opcode) c t i → Prefixed c (opcode_bytes opcode ++ t) i
+no_prefix_yet c opcode t i lt x = record { prefixes = []; opcode = opcode; text = t; all = tt; small = lt; behind = x; is = refl }
 
 pub here : (c : Counts) (b : ℕ) (t : List ℕ) (i : Instr) → b < 256 → Spelled (entry_of b) c t i → Prefixed c (b ∷ t) i
 here c b t i lt x = subst (λ (o : List ℕ). Prefixed c (o ++ t) i) (one_byte b lt) (no_prefix_yet c b t i (omega arith) x)
@@ -50,22 +50,22 @@ escaped_here c b t i lt x = subst (λ (o : List ℕ). Prefixed c (o ++ t) i) (tw
 
 -- ---- a byte, and what its entry wants behind it
 
-module _ (P : Texts) (c : Counts) (key b : ℕ) (on : (t : List ℕ) (i : Instr) → Spelled (entry_of key) c t i → P (b ∷ t) i) where
-  by_needs : (n k : ℕ) → after_opcode (entry_of key) c [] ≡ Needs n → 1 + n ≡ k → Lacks P [] k
+module _ (P : Texts) (c : Counts) (opcode b : ℕ) (on : (t : List ℕ) (i : Instr) → Spelled (entry_of opcode) c t i → P (b ∷ t) i) where
+  by_needs : (n k : ℕ) → after_opcode (entry_of opcode) c [] ≡ Needs n → 1 + n ≡ k → Lacks P [] k
   by_needs n k e len =
-      let w = (opcode_tells (entry_of key) c).needs [] n tt e in
+      let w = (opcode_tells (entry_of opcode) c).needs [] n tt e in
       record { more = b ∷ w.more; instr = w.instr; len = omega (arith, w.len, len); some = omega (arith, len); right = on w.more w.instr w.right }
 
-  by_found : (i : Instr) (k : ℕ) → after_opcode (entry_of key) c [] ≡ Found i 0 → 1 ≡ k → Lacks P [] k
+  by_found : (i : Instr) (k : ℕ) → after_opcode (entry_of opcode) c [] ≡ Found i 0 → 1 ≡ k → Lacks P [] k
   by_found i k e len =
-      let g = (opcode_tells (entry_of key) c).found [] i 0 tt e in
+      let g = (opcode_tells (entry_of opcode) c).found [] i 0 tt e in
       let none : g.text ≡ [] = nil_from_length g.text (omega (arith, ap length g.parts, length-append g.text g.rest)) in
-      record { more = b ∷ []; instr = i; len = omega (arith, len); some = omega (arith, len); right = on [] i (subst (λ (t : List ℕ). Spelled (entry_of key) c t i) none g.right) }
+      record { more = b ∷ []; instr = i; len = omega (arith, len); some = omega (arith, len); right = on [] i (subst (λ (t : List ℕ). Spelled (entry_of opcode) c t i) none g.right) }
 
 -- ---- what stands there
 
 abbrev counts : ℕ → ℕ → ℕ → ℕ → Counts
-counts h s x p = record { halves = h; segments = s; hints = x; repeats = p }
+counts h s x p = record { operand_sizes = h; segments = s; hints = x; repeats = p }
 
 nop_fits : (h : ℕ) → prefixes_fit row.Nop (counts h 0 0 0) ≡ true
 nop_fits h = rw (or-true (eqb h 0 || (eqb h 1 && false))) refl

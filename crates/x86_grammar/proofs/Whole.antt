@@ -12,13 +12,13 @@ use Rattle.x86_grammar.specs.declared.row.Form.{Form}
 use Rattle.x86_grammar.specs.declared.row.Counts.{Counts}
 use Rattle.x86_grammar.specs.declared.reading.Seen.TheVariants.{Found}
 use Rattle.x86_grammar.specs.Table.{entry_of, row_at}
-use Rattle.x86_grammar.specs.Rows.{bit, key_of, has_operand}
+use Rattle.x86_grammar.specs.Rows.{bit, opcode_of, has_operand}
 use Rattle.x86_grammar.specs.Attributes.{imm_size}
 use Rattle.x86_grammar.specs.Meaning.{build}
 use Rattle.x86_grammar.specs.Forms.{forms}
 use Rattle.x86_grammar.specs.Operand.{le, has_sib, disp_size, rm_of, sibs, operand_bytes}
-use Rattle.x86_grammar.specs.Spells.{no_counts, counts_of, half_in, opcode_bytes, operand_part, bytes_of, Spelling, IsSpelling, Spells}
-use Rattle.x86_grammar.specs.Reading.{read, read_from, Cut}
+use Rattle.x86_grammar.specs.Spells.{no_counts, counts_of, operand_size_in, opcode_bytes, operand_part, spelling_bytes, Spelling, IsSpelling, Spells}
+use Rattle.x86_grammar.specs.Reading.{read, read_from, AsksWithin}
 use Rattle.x86_grammar.proofs.Again.{row_again}
 use Rattle.x86_grammar.proofs.Bytes.{opcode_some}
 use Rattle.x86_grammar.proofs.Means.{Means, mean_of, forms_mean, rm_or, is_none}
@@ -46,51 +46,51 @@ module _ (i : Instr) (x : Spelling) (ok : IsSpelling x i) where
   mean : Means i f
   mean = mean_of i f (forms i) (forms_mean i) ok.among
 
-  means_at : (n : ℕ) (m : Rm) → n ≡ f.middle → rm_or f.rm m ≡ m → build f.row (half_in f.row ct) (eqb ct.repeats 1) n m f.imm ≡ Some i
-  means_at n m e q = rw (← ok.half, ← ok.rep, e) (subst (λ (y : Rm). build f.row f.half f.rep f.middle y f.imm ≡ Some i) q (mean.built m))
+  means_at : (n : ℕ) (m : Rm) → n ≡ f.reg_field → rm_or f.rm m ≡ m → build f.row (operand_size_in f.row ct) (eqb ct.repeats 1) n m f.imm ≡ Some i
+  means_at n m e q = rw (← ok.operand_size, ← ok.rep, e) (subst (λ (y : Rm). build f.row f.operand_size f.rep f.reg_field y f.imm ≡ Some i) q (mean.built m))
 
-  number_at : f.imm < 256 ^ imm_size f.row (half_in f.row ct)
-  number_at = subst (λ (h : Bool). f.imm < 256 ^ imm_size f.row h) ok.half ok.number
+  number_at : f.imm < 256 ^ imm_size f.row (operand_size_in f.row ct)
+  number_at = subst (λ (h : Bool). f.imm < 256 ^ imm_size f.row h) ok.operand_size ok.imm
 
-  there_at : (n : ℕ) → n ≡ f.middle → row_at (key_of f.row) n ≡ Some f.row
-  there_at n e = row_again f.row n (rw e mean.suits.middle)
+  there_at : (n : ℕ) → n ≡ f.reg_field → row_at (opcode_of f.row) n ≡ Some f.row
+  there_at n e = row_again f.row n (rw e mean.suits.reg_field)
 
   abbrev imm_bytes : List ℕ
-  imm_bytes = le (imm_size f.row (half_in f.row ct)) f.imm
+  imm_bytes = le (imm_size f.row (operand_size_in f.row ct)) f.imm
 
-  imm-length : length imm_bytes ≡ imm_size f.row (half_in f.row ct)
-  imm-length = length-le (imm_size f.row (half_in f.row ct)) f.imm
+  imm-length : length imm_bytes ≡ imm_size f.row (operand_size_in f.row ct)
+  imm-length = length-le (imm_size f.row (operand_size_in f.row ct)) f.imm
 
-  behind : (t : List ℕ) → Sees (read_from ct) (opcode_bytes (key_of f.row) ++ t) i → Sees read (x.prefixes ++ (opcode_bytes (key_of f.row) ++ t)) i
-  behind t s = prefixes_see x.prefixes no_counts (opcode_bytes (key_of f.row) ++ t) i ok.prefixes (omega (arith, length-append (opcode_bytes (key_of f.row)) t, opcode_some (key_of f.row))) s
+  behind : (t : List ℕ) → Sees (read_from ct) (opcode_bytes (opcode_of f.row) ++ t) i → Sees read (x.prefixes ++ (opcode_bytes (opcode_of f.row) ++ t)) i
+  behind t s = prefixes_see x.prefixes no_counts (opcode_bytes (opcode_of f.row) ++ t) i ok.prefixes (omega (arith, length-append (opcode_bytes (opcode_of f.row)) t, opcode_some (opcode_of f.row))) s
 
-  with_operand : has_operand f.row ≡ true → Sees read (x.prefixes ++ (opcode_bytes (key_of f.row) ++ (operand_bytes x.operand ++ imm_bytes))) i
+  with_operand : has_operand f.row ≡ true → Sees read (x.prefixes ++ (opcode_bytes (opcode_of f.row) ++ (operand_bytes x.operand ++ imm_bytes))) i
   with_operand o =
       let sh = ok.operand o in
       let m = x.operand.m in
       let s = x.operand.sib in
       let d = x.operand.disp in
-      let there = there_at _ sh.middle in
+      let there = there_at _ sh.reg_field in
       let t = m ∷ behind_m f.row ct m s d f.imm in
-      let b = means_at (m / 8 % 8) (rm_of m s d) sh.middle (rm_or_is f.rm _ sh.rm) in
-      let sees = opcode_sees f.row ct (entry_of (key_of f.row)) ok.fit m s d f.imm i o there sh.is.none sh.is.disp number_at b in
-      let long : bit (has_operand f.row) + imm_size f.row (half_in f.row ct) ≤ length t = rw o (omega (arith, imm-length, length-append (sibs (has_sib m) s) (le (disp_size m s) d ++ imm_bytes), length-append (le (disp_size m s) d) imm_bytes)) in
+      let b = means_at (m / 8 % 8) (rm_of m s d) sh.reg_field (rm_or_is f.rm _ sh.rm) in
+      let sees = opcode_sees f.row ct (entry_of (opcode_of f.row)) ok.fit m s d f.imm i o there sh.is.none sh.is.disp number_at b in
+      let long : bit (has_operand f.row) + imm_size f.row (operand_size_in f.row ct) ≤ length t = rw o (omega (arith, imm-length, length-append (sibs (has_sib m) s) (le (disp_size m s) d ++ imm_bytes), length-append (le (disp_size m s) d) imm_bytes)) in
       let e : t ≡ operand_bytes x.operand ++ imm_bytes = ap (λ (y : List ℕ). m ∷ y) (sym (append_assoc (sibs (has_sib m) s) (le (disp_size m s) d) imm_bytes)) in
-      subst (λ (y : List ℕ). Sees read (x.prefixes ++ (opcode_bytes (key_of f.row) ++ y)) i) e (behind t (front_sees f.row ct t i ok.fit long (m / 8 % 8) there sees))
+      subst (λ (y : List ℕ). Sees read (x.prefixes ++ (opcode_bytes (opcode_of f.row) ++ y)) i) e (behind t (front_sees f.row ct t i ok.fit long (m / 8 % 8) there sees))
 
-  without : has_operand f.row ≡ false → Sees read (x.prefixes ++ (opcode_bytes (key_of f.row) ++ imm_bytes)) i
+  without : has_operand f.row ≡ false → Sees read (x.prefixes ++ (opcode_bytes (opcode_of f.row) ++ imm_bytes)) i
   without o =
-      let pl = plain_cases (has_operand f.row) f.middle f.rm o mean.plain in
+      let pl = plain_cases (has_operand f.row) f.reg_field f.rm o mean.plain in
       let there = there_at 0 (sym pl.0) in
       let b = means_at 0 (rm.Reg reg.Eax) (sym pl.0) (rw pl.1 refl) in
-      let sees = plain_sees f.row ct (entry_of (key_of f.row)) ok.fit f.imm i o there number_at b in
+      let sees = plain_sees f.row ct (entry_of (opcode_of f.row)) ok.fit f.imm i o there number_at b in
       behind imm_bytes (front_sees f.row ct imm_bytes i ok.fit (rw o (omega (arith, imm-length))) 0 there sees)
 
-  spelling_cases : (b : Bool) → has_operand f.row ≡ b → Sees read (x.prefixes ++ (opcode_bytes (key_of f.row) ++ (operand_part b x.operand ++ le (imm_size f.row f.half) f.imm))) i
-  spelling_cases true e = rw ok.half (with_operand e)
-  spelling_cases false e = rw ok.half (without e)
+  spelling_cases : (b : Bool) → has_operand f.row ≡ b → Sees read (x.prefixes ++ (opcode_bytes (opcode_of f.row) ++ (operand_part b x.operand ++ le (imm_size f.row f.operand_size) f.imm))) i
+  spelling_cases true e = rw ok.operand_size (with_operand e)
+  spelling_cases false e = rw ok.operand_size (without e)
 
-  spelling_sees : Sees read (bytes_of x) i
+  spelling_sees : Sees read (spelling_bytes x) i
   spelling_sees = spelling_cases (has_operand f.row) refl
 
 spells_sees : (t : List ℕ) (i : Instr) → Spells t i → Sees read t i
@@ -99,7 +99,7 @@ spells_sees t i p = subst (λ (y : List ℕ). Sees read y i) (sym p.bytes_are) (
 pub spells_whole : (text rest : List ℕ) (i : Instr) → Spells text i → read (text ++ rest) ≡ Found i (length rest)
 spells_whole text rest i p = (spells_sees text i p).whole rest
 
-pub spells_cut : (front back : List ℕ) (i : Instr) → Spells (front ++ back) i → 0 < length back → Cut (read front) (length back)
+pub spells_cut : (front back : List ℕ) (i : Instr) → Spells (front ++ back) i → 0 < length back → AsksWithin (read front) (length back)
 spells_cut front back i p lt = (spells_sees (front ++ back) i p).cut front back refl lt
 
 found_same : (i j : Instr) (n m : ℕ) → Found i n ≡ Found j m → (i ≡ j) × (n ≡ m)

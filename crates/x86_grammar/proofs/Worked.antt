@@ -1,3 +1,4 @@
+-- In part written by tools/worked.py.
 -- Worked spellings of each row of the list, by the manual's pages, and bytes that spell nothing. Each is
 -- computed by the checker.
 use Rattle.std.proofs.Common.{◌≡◌, ℕ, ◌/◌, ◌%◌, ◌^◌, Bool, true, false, not, ltb, leb, eqb, ◌&&◌, ◌||◌, List, [], ◌∷◌, length, Some, None, inl, inr, refl, sym, ap, ◌∙◌, arith}
@@ -22,7 +23,7 @@ use Rattle.x86_grammar.specs.Rows.{has_operand}
 use Rattle.x86_grammar.specs.Attributes.{imm_size}
 use Rattle.x86_grammar.specs.Forms.{forms, In}
 use Rattle.x86_grammar.specs.Operand.{Operand, IsOperand, has_sib, disp_size, rm_of}
-use Rattle.x86_grammar.specs.Spells.{is_prefix, counts_of, prefixes_fit, half_in, bytes_of, Spells}
+use Rattle.x86_grammar.specs.Spells.{is_prefix, counts_of, prefixes_fit, operand_size_in, spelling_bytes, Spells}
 use Rattle.x86_grammar.specs.Reading.{numbers, sib_at, after_m, m_at, plain_at, after_opcode, after_escape, at_opcode, read_from, read}
 use Rattle.x86_grammar.specs.Worked.{at, AllSpelled, NoneSpelled}
 use Rattle.x86_grammar.proofs.Map.{and_left, and_right}
@@ -43,7 +44,7 @@ abbrev is_operand : Operand → ℕ → Bool
 is_operand o n = ltb o.m 256 && (ltb o.sib 256 && ((has_sib o.m || eqb o.sib 0) && (ltb o.disp (256 ^ disp_size o.m o.sib) && eqb (o.m / 8 % 8) n)))
 
 abbrev right : List ℕ → Form → Operand → Bool
-right ps f o = all_prefixes ps && (prefixes_fit f.row (counts_of ps) && (agree f.half (half_in f.row (counts_of ps)) && (agree f.rep (eqb (counts_of ps).repeats 1) && ((not (has_operand f.row) || is_operand o f.middle) && (ltb f.imm (256 ^ imm_size f.row f.half) && leb (length (bytes_of (record { prefixes = ps; form = f; operand = o }))) 15)))))
+right ps f o = all_prefixes ps && (prefixes_fit f.row (counts_of ps) && (agree f.operand_size (operand_size_in f.row (counts_of ps)) && (agree f.rep (eqb (counts_of ps).repeats 1) && ((not (has_operand f.row) || is_operand o f.reg_field) && (ltb f.imm (256 ^ imm_size f.row f.operand_size) && leb (length (spelling_bytes (record { prefixes = ps; form = f; operand = o }))) 15)))))
 
 prefixes_all : (ps : List ℕ) → all_prefixes ps ≡ true → AllByRecursion (λ b. is_prefix b ≡ true) ps
 prefixes_all [] h = tt
@@ -70,26 +71,26 @@ operand_is o n h =
     let d = and_right (has_sib o.m || eqb o.sib 0) _ c in
     (record { m = ltb-true _ _ (and_left (ltb o.m 256) _ h); sib = ltb-true _ _ (and_left (ltb o.sib 256) _ b); none = λ e. eqb-true _ _ (or_zero (has_sib o.m) (eqb o.sib 0) (and_left (has_sib o.m || eqb o.sib 0) _ c) e); disp = ltb-true _ _ (and_left (ltb o.disp (256 ^ disp_size o.m o.sib)) _ d) }, eqb-true _ _ (and_right (ltb o.disp (256 ^ disp_size o.m o.sib)) _ d))
 
-pub spelled : (ps : List ℕ) (f : Form) (o : Operand) (i : Instr) → In f (forms i) → IfSome f.rm (λ m. rm_of o.m o.sib o.disp ≡ m) → right ps f o ≡ true → Spells (bytes_of (record { prefixes = ps; form = f; operand = o })) i
+pub spelled : (ps : List ℕ) (f : Form) (o : Operand) (i : Instr) → In f (forms i) → IfSome f.rm (λ m. rm_of o.m o.sib o.disp ≡ m) → right ps f o ≡ true → Spells (spelling_bytes (record { prefixes = ps; form = f; operand = o })) i
 spelled ps f o i among rm h =
     let h1 = and_right (all_prefixes ps) _ h in
     let h2 = and_right (prefixes_fit f.row (counts_of ps)) _ h1 in
-    let h3 = and_right (agree f.half (half_in f.row (counts_of ps))) _ h2 in
+    let h3 = and_right (agree f.operand_size (operand_size_in f.row (counts_of ps))) _ h2 in
     let h4 = and_right (agree f.rep (eqb (counts_of ps).repeats 1)) _ h3 in
-    let h5 = and_right (not (has_operand f.row) || is_operand o f.middle) _ h4 in
+    let h5 = and_right (not (has_operand f.row) || is_operand o f.reg_field) _ h4 in
     record {
       spelling = record { prefixes = ps; form = f; operand = o };
       right = record {
         among = among;
         prefixes = prefixes_all ps (and_left (all_prefixes ps) _ h);
         fit = and_left (prefixes_fit f.row (counts_of ps)) _ h1;
-        half = agrees _ _ (and_left (agree f.half (half_in f.row (counts_of ps))) _ h2);
+        operand_size = agrees _ _ (and_left (agree f.operand_size (operand_size_in f.row (counts_of ps))) _ h2);
         rep = agrees _ _ (and_left (agree f.rep (eqb (counts_of ps).repeats 1)) _ h3);
-        operand = λ e. let w = operand_is o f.middle (or_right (has_operand f.row) (is_operand o f.middle) (and_left (not (has_operand f.row) || is_operand o f.middle) _ h4) e) in record { is = w.0; middle = w.1; rm = rm };
-        number = ltb-true _ _ (and_left (ltb f.imm (256 ^ imm_size f.row f.half)) _ h5);
+        operand = λ e. let w = operand_is o f.reg_field (or_right (has_operand f.row) (is_operand o f.reg_field) (and_left (not (has_operand f.row) || is_operand o f.reg_field) _ h4) e) in record { is = w.0; reg_field = w.1; rm = rm };
+        imm = ltb-true _ _ (and_left (ltb f.imm (256 ^ imm_size f.row f.operand_size)) _ h5);
       };
       bytes_are = refl;
-      short = leb-true _ _ (and_right (ltb f.imm (256 ^ imm_size f.row f.half)) _ h5);
+      short = leb-true _ _ (and_right (ltb f.imm (256 ^ imm_size f.row f.operand_size)) _ h5);
     }
 
 -- ---- what is spelled, by tools/worked.py

@@ -12,31 +12,33 @@ use Rattle.x86_grammar.specs.Rows.{attributes_of}
 
 -- the width of an opcode, by its w bit and whether one 66 stands
 abbrev pub width_of : Bool → Bool → Width
-width_of false half = One
+width_of false operand_size = One
 width_of true true = Two
 width_of true false = Four
 
+-- the bytes of an operand
 abbrev pub wide_size : Bool → Bool → ℕ
-wide_size w half = size_of (width_of w half)
+wide_size w operand_size = size_of (width_of w operand_size)
 
 -- where one 66 makes width Two
-abbrev pub can_half : Row → Bool
-can_half r = (attributes_of r).prefixes.operand_size
+abbrev pub has_operand_size : Row → Bool
+has_operand_size r = (attributes_of r).prefixes.operand_size
 
--- the bytes of a number at the end
+-- the bytes of an immediate
 abbrev pub size_in : ImmSize → Bool → ℕ
-size_in NoImm half = 0
-size_in Imm8 half = 1
-size_in Imm16 half = 2
-size_in Imm32 half = 4
-size_in (ImmOperand w) half = wide_size w half
+size_in NoImm operand_size = 0
+size_in Imm8 operand_size = 1
+size_in Imm16 operand_size = 2
+size_in Imm32 operand_size = 4
+size_in (ImmOperand w) operand_size = wide_size w operand_size
 
+-- the bytes of a row's immediate
 abbrev pub imm_size : Row → Bool → ℕ
-imm_size r half = size_in (attributes_of r).imm half
+imm_size r operand_size = size_in (attributes_of r).imm operand_size
 
 -- where any number of 66 may stand, and says nothing
-abbrev pub any_halves : Row → Bool
-any_halves r = (attributes_of r).prefixes.any_66
+abbrev pub any_operand_sizes : Row → Bool
+any_operand_sizes r = (attributes_of r).prefixes.any_66
 
 -- where any number of 2E may stand
 abbrev pub any_segments : Row → Bool
@@ -52,5 +54,6 @@ f3_fits f3.Never rep = not rep
 f3_fits f3.May rep = true
 f3_fits f3.Must rep = rep
 
+-- whether F3 stands as the row may or must have it
 abbrev pub rep_fits : Row → Bool → Bool
 rep_fits r rep = f3_fits (attributes_of r).prefixes.f3 rep

@@ -20,22 +20,23 @@ use Rattle.x86_types.specs.Numbers.{number_of_reg, number_of_alu, number_of_shif
 use Rattle.x86_grammar.specs.declared.row.Form.{Form}
 use Rattle.x86_grammar.specs.declared.row.Row.{Row}
 use Rattle.x86_grammar.specs.declared.row.Row.TheVariants as row
-use Rattle.x86_grammar.specs.Parts.{full_of, with_rm, plain, repeated, if_signed, if_reg, if_acc, not_one}
+use Rattle.x86_grammar.specs.Parts.{w_bit, with_rm, plain, repeated, if_signed, if_reg, if_acc, not_one}
 
 -- "ADC", "ADD", "AND", "CMP", "OR", "SBB", "SUB", "XOR"
 abbrev pub alu_byte : Width → AluOp → Rm → ℕ → List Form
 alu_byte w op to v = not_one w (if_signed w v (λ b. with_rm row.AluByte w (number_of_alu op) to b))
 
+-- a register, a place in memory or a constant as the source
 abbrev pub alu_forms : AluOp → Width → Rm → Src → List Form
-alu_forms op w to (src.Reg r) = with_rm (row.AluToRm op (full_of w)) w (number_of_reg r) to 0 ∷ if_reg to (λ t. with_rm (row.AluToReg op (full_of w)) w (number_of_reg t) (rm.Reg r) 0 ∷ [])
-alu_forms op w to (src.Mem a) = if_reg to (λ t. with_rm (row.AluToReg op (full_of w)) w (number_of_reg t) (rm.Mem a) 0 ∷ [])
-alu_forms op w to (src.Imm v) = with_rm (row.AluImm (full_of w)) w (number_of_alu op) to v ∷ (if_acc to (plain (row.AluAcc op (full_of w)) w v) ++ alu_byte w op to v)
+alu_forms op w to (src.Reg r) = with_rm (row.AluToRm op (w_bit w)) w (number_of_reg r) to 0 ∷ if_reg to (λ t. with_rm (row.AluToReg op (w_bit w)) w (number_of_reg t) (rm.Reg r) 0 ∷ [])
+alu_forms op w to (src.Mem a) = if_reg to (λ t. with_rm (row.AluToReg op (w_bit w)) w (number_of_reg t) (rm.Mem a) 0 ∷ [])
+alu_forms op w to (src.Imm v) = with_rm (row.AluImm (w_bit w)) w (number_of_alu op) to v ∷ (if_acc to (plain (row.AluAcc op (w_bit w)) w v) ++ alu_byte w op to v)
 
 -- "TEST"
 abbrev pub test_forms : Width → Rm → Src → List Form
-test_forms w left (src.Reg r) = with_rm (row.TestRm (full_of w)) w (number_of_reg r) left 0 ∷ []
+test_forms w left (src.Reg r) = with_rm (row.TestRm (w_bit w)) w (number_of_reg r) left 0 ∷ []
 test_forms w left (src.Mem a) = []
-test_forms w left (src.Imm v) = with_rm (row.TestImm (full_of w)) w 0 left v ∷ if_acc left (plain (row.TestAcc (full_of w)) w v)
+test_forms w left (src.Imm v) = with_rm (row.TestImm (w_bit w)) w 0 left v ∷ if_acc left (plain (row.TestAcc (w_bit w)) w v)
 
 -- "MOV"; the address of A0 to A3 is a number alone
 abbrev pub number_only : Option Reg → Option Reg → ℕ → Form → List Form
@@ -43,22 +44,26 @@ number_only None None s f = if s == 1 then f ∷ [] else []
 number_only None (Some r) s f = []
 number_only (Some r) i s f = []
 
+-- a place in memory that is a number alone
 abbrev pub if_number : Rm → (ℕ → Form) → List Form
 if_number (rm.Reg r) f = []
 if_number (rm.Mem a) f = number_only a.base a.index a.scale (f a.disp)
 
+-- A0 and A1 load the accumulator
 abbrev pub mov_load : Width → Reg → Address → List Form
-mov_load w Eax a = if_number (rm.Mem a) (λ d. plain (row.MovLoad (full_of w)) w d)
+mov_load w Eax a = if_number (rm.Mem a) (λ d. plain (row.MovLoad (w_bit w)) w d)
 mov_load w _ a = []
 
+-- A2 and A3 store it
 abbrev pub mov_store : Width → Rm → Reg → List Form
-mov_store w to Eax = if_number to (λ d. plain (row.MovStore (full_of w)) w d)
+mov_store w to Eax = if_number to (λ d. plain (row.MovStore (w_bit w)) w d)
 mov_store w to _ = []
 
+-- "MOV": to or from a register, of a constant, and of the accumulator
 abbrev pub mov_forms : Width → Rm → Src → List Form
-mov_forms w to (src.Reg r) = with_rm (row.MovToRm (full_of w)) w (number_of_reg r) to 0 ∷ (if_reg to (λ t. with_rm (row.MovToReg (full_of w)) w (number_of_reg t) (rm.Reg r) 0 ∷ []) ++ mov_store w to r)
-mov_forms w to (src.Mem a) = if_reg to (λ t. with_rm (row.MovToReg (full_of w)) w (number_of_reg t) (rm.Mem a) 0 ∷ mov_load w t a)
-mov_forms w to (src.Imm v) = with_rm (row.MovImm (full_of w)) w 0 to v ∷ if_reg to (λ t. plain (row.MovReg t (full_of w)) w v ∷ [])
+mov_forms w to (src.Reg r) = with_rm (row.MovToRm (w_bit w)) w (number_of_reg r) to 0 ∷ (if_reg to (λ t. with_rm (row.MovToReg (w_bit w)) w (number_of_reg t) (rm.Reg r) 0 ∷ []) ++ mov_store w to r)
+mov_forms w to (src.Mem a) = if_reg to (λ t. with_rm (row.MovToReg (w_bit w)) w (number_of_reg t) (rm.Mem a) 0 ∷ mov_load w t a)
+mov_forms w to (src.Imm v) = with_rm (row.MovImm (w_bit w)) w 0 to v ∷ if_reg to (λ t. plain (row.MovReg t (w_bit w)) w v ∷ [])
 
 -- "LEA"
 abbrev pub lea_forms : Width → Reg → Address → List Form
@@ -68,11 +73,11 @@ lea_forms w to a = not_one w (with_rm row.Lea w (number_of_reg to) (rm.Mem a) 0 
 abbrev pub short_step : (Reg → Row) → Width → Rm → List Form
 short_step r w to = not_one w (if_reg to (λ t. plain (r t) w 0 ∷ []))
 
--- a row of one operand, by its middle field
+-- a row of one operand, by its reg field
 abbrev pub unit : (Bool → Row) → ℕ → Width → Rm → List Form
-unit r n w m = with_rm (r (full_of w)) w n m 0 ∷ []
+unit r n w m = with_rm (r (w_bit w)) w n m 0 ∷ []
 
--- a row with a register in the middle field, widths Two and Four
+-- a row with a register in the reg field, widths Two and Four
 abbrev pub to_reg : Row → Width → Reg → Rm → List Form
 to_reg r w to from = not_one w (with_rm r w (number_of_reg to) from 0 ∷ [])
 
@@ -82,8 +87,8 @@ imul_by_forms w to from v = not_one w (with_rm row.ImulWord w (number_of_reg to)
 
 -- "SAL/SAR/SHL/SHR", "RCL/RCR/ROL/ROR"
 abbrev pub shift_forms : ShiftOp → Width → Rm → Count → List Form
-shift_forms op w to (count.Imm v) = with_rm (row.ShiftImm op (full_of w)) w (number_of_shift op) to v ∷ (if v == 1 then with_rm (row.ShiftOne op (full_of w)) w (number_of_shift op) to 0 ∷ [] else [])
-shift_forms op w to count.Cl = with_rm (row.ShiftCl op (full_of w)) w (number_of_shift op) to 0 ∷ []
+shift_forms op w to (count.Imm v) = with_rm (row.ShiftImm op (w_bit w)) w (number_of_shift op) to v ∷ (if v == 1 then with_rm (row.ShiftOne op (w_bit w)) w (number_of_shift op) to 0 ∷ [] else [])
+shift_forms op w to count.Cl = with_rm (row.ShiftCl op (w_bit w)) w (number_of_shift op) to 0 ∷ []
 
 -- "SHLD", "SHRD"
 abbrev pub double_forms : Row → Row → Rm → Reg → Count → List Form
@@ -101,12 +106,14 @@ abbrev pub other_reg : Reg → Form → List Form
 other_reg Eax f = []
 other_reg _ f = f ∷ []
 
+-- 91 to 97
 abbrev pub xchg_short : Width → Rm → Reg → List Form
 xchg_short w (rm.Reg Eax) r = other_reg r (plain (row.XchgAcc r) w 0)
 xchg_short w _ r = []
 
+-- "XCHG": by ModRM, and with the accumulator
 abbrev pub xchg_forms : Width → Rm → Reg → List Form
-xchg_forms w left r = with_rm (row.Xchg (full_of w)) w (number_of_reg r) left 0 ∷ not_one w (xchg_short w left r)
+xchg_forms w left r = with_rm (row.Xchg (w_bit w)) w (number_of_reg r) left 0 ∷ not_one w (xchg_short w left r)
 
 -- "MOVSX/MOVSXD", "MOVZX"
 abbrev pub widen_forms : Row → Row → Width → Width → Reg → Rm → List Form
@@ -128,8 +135,8 @@ forms (instr.Alu op w to from) = alu_forms op w to from
 forms (instr.Test w left right) = test_forms w left right
 forms (instr.Mov w to from) = mov_forms w to from
 forms (instr.Lea w to a) = lea_forms w to a
-forms (instr.Inc w to) = with_rm (row.Inc (full_of w)) w 0 to 0 ∷ short_step row.IncReg w to
-forms (instr.Dec w to) = with_rm (row.Dec (full_of w)) w 1 to 0 ∷ short_step row.DecReg w to
+forms (instr.Inc w to) = with_rm (row.Inc (w_bit w)) w 0 to 0 ∷ short_step row.IncReg w to
+forms (instr.Dec w to) = with_rm (row.Dec (w_bit w)) w 1 to 0 ∷ short_step row.DecReg w to
 forms (instr.Not w to) = unit row.Not 2 w to
 forms (instr.Neg w to) = unit row.Neg 3 w to
 forms (instr.Mul w from) = unit row.Mul 4 w from
@@ -153,8 +160,8 @@ forms (instr.Spread w) = not_one w (plain row.Spread w 0 ∷ [])
 forms (instr.Bsf w to from) = to_reg row.Bsf w to from
 forms (instr.Bsr w to from) = to_reg row.Bsr w to from
 forms (instr.Bswap to) = plain (row.BswapReg to) Four 0 ∷ []
-forms (instr.Movs w repeat) = repeated (row.Movs (full_of w)) w repeat 0 ∷ []
-forms (instr.Stos w repeat) = repeated (row.Stos (full_of w)) w repeat 0 ∷ []
+forms (instr.Movs w repeat) = repeated (row.Movs (w_bit w)) w repeat 0 ∷ []
+forms (instr.Stos w repeat) = repeated (row.Stos (w_bit w)) w repeat 0 ∷ []
 forms (instr.Jmp by) = plain row.JmpNear Four by ∷ if_signed Four by (λ b. plain row.JmpShort Four b)
 forms (instr.JmpTo to) = with_rm row.JmpTo Four 4 to 0 ∷ []
 forms (instr.CallTo to) = with_rm row.CallTo Four 2 to 0 ∷ []
@@ -166,6 +173,7 @@ forms instr.Int80 = plain row.Int80 Four 0x80 ∷ []
 forms instr.Cld = plain row.Cld Four 0 ∷ []
 forms instr.Nop = plain row.Nop Four 0 ∷ plain row.NopLong Four 0 ∷ repeated row.NopEnd Four true 0xFB ∷ []
 
+-- the form is in the list
 abbrev pub In : Form → List Form → Type 0
 In f [] = ⊥
 In f (g ∷ gs) = (f ≡ g) ⊎ In f gs

@@ -91,5 +91,6 @@ worked_fronts =
     (0x82 ∷ 0xC0 ∷ 0x01 ∷ [], None) ∷
     []
 
+-- each row's bytes begin as it says
 abbrev pub FrontsAreWorked : Type 0
 FrontsAreWorked = AllByRecursion (λ (row : List ℕ × Option (Instr × ℕ)). front row.0 ≡ row.1) worked_fronts

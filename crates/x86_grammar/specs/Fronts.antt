@@ -9,6 +9,7 @@ pub record FrontSpells (bytes : List ℕ) (i : Instr) (len : ℕ) : Type 0 where
   pub there : len ≤ length bytes
   pub spells : Spells (take len bytes) i
 
+-- no front of the bytes spells an instruction
 abbrev pub NoFrontSpells : List ℕ → Type 0
 NoFrontSpells bytes = (i : Instr) (len : ℕ) → FrontSpells bytes i len → ⊥
 

@@ -14,11 +14,13 @@ abbrev pub le : ℕ → ℕ → List ℕ
 le zero v = []
 le (suc k) v = v % 256 ∷ le k (v / 256)
 
+-- the number in the first bytes of that many, the lowest first
 abbrev pub from_le : ℕ → List ℕ → ℕ
 from_le zero bytes = 0
 from_le (suc k) [] = 0
 from_le (suc k) (b ∷ bytes) = b + 256 * from_le k bytes
 
+-- whether SIB stands behind that ModRM: mod isn't 3, and rm is 4
 abbrev pub has_sib : ℕ → Bool
 has_sib m = nat_lt m 0xC0 && m % 8 == 4
 
@@ -34,23 +36,29 @@ mod_size (suc zero) five = 1
 mod_size (suc (suc zero)) five = 4
 mod_size (suc (suc (suc n))) five = 0
 
+-- the bytes of the displacement behind that ModRM and SIB
 abbrev pub disp_size : ℕ → ℕ → ℕ
 disp_size m s = mod_size (m / 64) (low_of m s == 5)
 
+-- the displacement, one byte of it with its sign
 abbrev pub disp_of : ℕ → ℕ → ℕ
 disp_of (suc zero) d = signed Four d
 disp_of _ d = d
 
+-- the base; none where mod is 0 and its field is 5
 abbrev pub base_of : ℕ → ℕ → Option Reg
 base_of m s = if (m / 64 == 0) && (low_of m s == 5) then None else Some (reg_of (low_of m s))
 
+-- the index where SIB stands; 4 names none
 abbrev pub index_in : Bool → ℕ → Option Reg
 index_in false x = None
 index_in true x = if x == 4 then None else Some (reg_of x)
 
+-- the index
 abbrev pub index_of : ℕ → ℕ → Option Reg
 index_of m s = index_in (has_sib m) (s / 8 % 8)
 
+-- the scale, by its two bits
 abbrev pub scale_in : ℕ → ℕ
 scale_in zero = 1
 scale_in (suc zero) = 2
@@ -62,9 +70,11 @@ abbrev pub scale_of : Option Reg → ℕ → ℕ
 scale_of None s = 1
 scale_of (Some r) s = scale_in (s / 64)
 
+-- the place in memory that ModRM, SIB and a displacement name
 abbrev pub address : ℕ → ℕ → ℕ → Address
 address m s d = record { base = base_of m s; index = index_of m s; scale = scale_of (index_of m s) s; disp = disp_of (disp_size m s) d }
 
+-- what ModRM, SIB and a displacement name: a register where mod is 3
 abbrev pub rm_of : ℕ → ℕ → ℕ → Rm
 rm_of m s d = if nat_lt m 0xC0 then rm.Mem (address m s d) else rm.Reg (reg_of (m % 8))
 
@@ -74,15 +84,18 @@ pub record Operand : Type 0 where
   pub sib : ℕ
   pub disp : ℕ
 
+-- each part in its range
 pub record IsOperand (o : Operand) : Type 0 where
   pub m : o.m < 256
   pub sib : o.sib < 256
   pub none : has_sib o.m ≡ false → o.sib ≡ 0
   pub disp : o.disp < 256 ^ disp_size o.m o.sib
 
+-- the byte of SIB, where it stands
 abbrev pub sibs : Bool → ℕ → List ℕ
 sibs true s = s ∷ []
 sibs false s = []
 
+-- ModRM with SIB and displacement as bytes
 abbrev pub operand_bytes : Operand → List ℕ
 operand_bytes o = o.m ∷ (sibs (has_sib o.m) o.sib ++ le (disp_size o.m o.sib) o.disp)

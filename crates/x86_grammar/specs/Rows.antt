@@ -38,10 +38,11 @@ sized w = known w false false false Never
 abbrev pub sized_2e : Prefixes
 sized_2e = known true false true false Never
 
--- any number of 66, and of 66 and 2E
+-- any number of 66
 abbrev pub any_66 : Prefixes
 any_66 = known false true false false Never
 
+-- any number of 66 and of 2E
 abbrev pub any_66_2e : Prefixes
 any_66_2e = known false true true false Never
 
@@ -62,10 +63,11 @@ abbrev pub not_eax : Reg → RegField
 not_eax reg.Eax = Nowhere
 not_eax _ = Any
 
--- a row with ModRM, and one without
+-- a row with ModRM
 abbrev pub modrm : ℕ → RegField → Prefixes → ImmSize → Attributes
 modrm o n p i = record { opcode = o; modrm = true; reg_field = n; prefixes = p; imm = i }
 
+-- a row without ModRM
 abbrev pub alone : ℕ → RegField → Prefixes → ImmSize → Attributes
 alone o n p i = record { opcode = o; modrm = false; reg_field = n; prefixes = p; imm = i }
 
@@ -144,17 +146,18 @@ attributes_of row.MovsxWord = modrm 0x1BF Any no_prefix NoImm
 attributes_of (row.BswapReg r) = alone (0x1C8 + number_of_reg r) Any no_prefix NoImm
 
 -- the row's opcode
-abbrev pub key_of : Row → ℕ
-key_of r = (attributes_of r).opcode
+abbrev pub opcode_of : Row → ℕ
+opcode_of r = (attributes_of r).opcode
 
 -- the values of ModRM's reg field
-abbrev pub middle_of : Row → RegField
-middle_of r = (attributes_of r).reg_field
+abbrev pub reg_field_of : Row → RegField
+reg_field_of r = (attributes_of r).reg_field
 
-abbrev pub fits_middle : RegField → ℕ → Bool
-fits_middle Any n = true
-fits_middle (Is m) n = m == n
-fits_middle Nowhere n = false
+-- whether a reg field is one of them
+abbrev pub fits_reg_field : RegField → ℕ → Bool
+fits_reg_field Any n = true
+fits_reg_field (Is m) n = m == n
+fits_reg_field Nowhere n = false
 
 -- whether ModRM stands behind the opcode
 abbrev pub has_operand : Row → Bool

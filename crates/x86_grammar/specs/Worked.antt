@@ -1,3 +1,4 @@
+-- In part written by tools/worked.py.
 -- Worked spellings, two or more for each line of the list of instructions, and bytes that spell nothing.
 use Rattle.std.specs.Prelude.{ℕ, List, [], ◌∷◌, Option, Some, None, true, false}
 use Rattle.std.specs.List.{AllByRecursion}
@@ -15,11 +16,13 @@ use Rattle.x86_types.specs.declared.instr.Instr.{Instr}
 use Rattle.x86_types.specs.declared.instr.Instr.TheVariants as instr
 use Rattle.x86_grammar.specs.Spells.{Spells}
 
+-- an address by base, index, scale and displacement
 abbrev pub at : Option Reg → Option Reg → ℕ → ℕ → Address
 at b x s d = record { base = b; index = x; scale = s; disp = d }
 
 -- ---- the tables, by tools/worked.py
 
+-- bytes with the instruction that they spell
 abbrev pub worked : List (List ℕ × Instr)
 worked =
     (0x00 ∷ 0xC8 ∷ [], instr.Alu alu.Add One (rm.Reg reg.Eax) (src.Reg reg.Ecx)) ∷
@@ -127,6 +130,7 @@ worked =
     (0xF3 ∷ 0x0F ∷ 0x1E ∷ 0xFB ∷ [], instr.Nop) ∷
     []
 
+-- bytes that spell nothing
 abbrev pub in_vain : List (List ℕ)
 in_vain =
     (0x82 ∷ 0xC0 ∷ 0x01 ∷ []) ∷

@@ -8,8 +8,8 @@ use crate::rows::attributes_of;
 use x86_types::Width;
 
 /// The row's opcode; 0x100 stands for 0F before the byte.
-pub fn key_of(row: Row) -> u16
-    ensures key { result ≡ rows.key_of row }
+pub fn opcode_of(row: Row) -> u16
+    ensures opcode { result ≡ rows.opcode_of row }
     ensures small { result < 0x200 }
 {
     attributes_of(row).opcode
@@ -23,33 +23,33 @@ pub fn has_operand(row: Row) -> bool
 }
 
 /// Whether one 66 makes width Two.
-pub fn can_half(row: Row) -> bool
-    ensures { result ≡ spec.can_half row }
+pub fn has_operand_size(row: Row) -> bool
+    ensures { result ≡ spec.has_operand_size row }
 {
     attributes_of(row).prefixes.operand_size
 }
 
 /// The width of an opcode: One where its w bit is 0, else Two behind 66 and Four without.
-pub fn width_of(w: bool, half: bool) -> Width
-    ensures { result ≡ spec.width_of w half }
+pub fn width_of(w: bool, operand_size: bool) -> Width
+    ensures { result ≡ spec.width_of w operand_size }
 {
-    match (w, half) {
+    match (w, operand_size) {
         (false, _) => Width::One,
         (true, true) => Width::Two,
         (true, false) => Width::Four,
     }
 }
 
-fn wide_size(w: bool, half: bool) -> u8
-    ensures size { result ≡ spec.wide_size w half }
+fn wide_size(w: bool, operand_size: bool) -> u8
+    ensures size { result ≡ spec.wide_size w operand_size }
     ensures few { result ≤ 4 }
 {
-    width_of(w, half).size()
+    width_of(w, operand_size).size()
 }
 
-/// The bytes of a number at the end: none, one, two or four.
-pub fn size_in(imm: ImmSize, half: bool) -> u8
-    ensures size { result ≡ spec.size_in imm half }
+/// The bytes of an immediate: none, one, two or four.
+pub fn size_in(imm: ImmSize, operand_size: bool) -> u8
+    ensures size { result ≡ spec.size_in imm operand_size }
     ensures few { result ≤ 4 }
 {
     match imm {
@@ -57,16 +57,16 @@ pub fn size_in(imm: ImmSize, half: bool) -> u8
         ImmSize::Imm8 => 1,
         ImmSize::Imm16 => 2,
         ImmSize::Imm32 => 4,
-        ImmSize::ImmOperand(w) => wide_size(w, half),
+        ImmSize::ImmOperand(w) => wide_size(w, operand_size),
     }
 }
 
 /// The bytes of the number at the row's end.
-pub fn imm_size(row: Row, half: bool) -> u8
-    ensures size { result ≡ spec.imm_size row half }
+pub fn imm_size(row: Row, operand_size: bool) -> u8
+    ensures size { result ≡ spec.imm_size row operand_size }
     ensures few { result ≤ 4 }
 {
-    size_in(attributes_of(row).imm, half)
+    size_in(attributes_of(row).imm, operand_size)
 }
 
 fn f3_fits(f3: F3, rep: bool) -> bool
@@ -80,17 +80,17 @@ fn f3_fits(f3: F3, rep: bool) -> bool
 }
 
 /// Whether 66 makes width Two: exactly one stands, and it is known.
-pub fn known_half(known: Prefixes, counts: Counts) -> bool
-    ensures { result ≡ spells.known_half known counts }
+pub fn known_operand_size(known: Prefixes, counts: Counts) -> bool
+    ensures { result ≡ spells.known_operand_size known counts }
 {
-    counts.halves == 1 && known.operand_size
+    counts.operand_sizes == 1 && known.operand_size
 }
 
 /// Whether the prefixes are among those that are known.
 pub fn known_fit(known: Prefixes, counts: Counts) -> bool
     ensures { result ≡ spells.known_fit known counts }
 {
-    (counts.halves == 0 || known_half(known, counts) || known.any_66)
+    (counts.operand_sizes == 0 || known_operand_size(known, counts) || known.any_66)
         && (counts.segments == 0 || known.any_2e)
         && (counts.hints == 0 || (counts.hints == 1 && known.one_3e))
         && counts.repeats < 2
@@ -98,10 +98,10 @@ pub fn known_fit(known: Prefixes, counts: Counts) -> bool
 }
 
 /// Whether 66 makes width Two behind those prefixes.
-pub fn half_in(row: Row, counts: Counts) -> bool
-    ensures { result ≡ spells.half_in row counts }
+pub fn operand_size_in(row: Row, counts: Counts) -> bool
+    ensures { result ≡ spells.operand_size_in row counts }
 {
-    known_half(attributes_of(row).prefixes, counts)
+    known_operand_size(attributes_of(row).prefixes, counts)
 }
 
 /// Whether the prefixes are those that the row knows.

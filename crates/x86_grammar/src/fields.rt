@@ -61,7 +61,7 @@ fn count_fits(count: Count) -> bool
 }
 
 fn w_bit(width: Width) -> bool
-    ensures { result ≡ parts.full_of width }
+    ensures { result ≡ parts.w_bit width }
 {
     match width {
         Width::One => false,

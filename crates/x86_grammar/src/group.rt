@@ -4,28 +4,28 @@ ghost use Rattle.x86_grammar.specs.Table as spec;
 use crate::row::{Group, Row};
 use x86_types::{ShiftOp, shift_at};
 
-fn unit_row(full: bool, middle: u8) -> Option<Row>
-    ensures { result ≡ spec.unit_row full middle }
+fn unit_row(w: bool, reg_field: u8) -> Option<Row>
+    ensures { result ≡ spec.unit_row w reg_field }
 {
-    match middle {
-        0 => Some(Row::TestImm(full)),
+    match reg_field {
+        0 => Some(Row::TestImm(w)),
         1 => None,
-        2 => Some(Row::Not(full)),
-        3 => Some(Row::Neg(full)),
-        4 => Some(Row::Mul(full)),
-        5 => Some(Row::ImulWide(full)),
-        6 => Some(Row::Div(full)),
-        7 => Some(Row::Idiv(full)),
+        2 => Some(Row::Not(w)),
+        3 => Some(Row::Neg(w)),
+        4 => Some(Row::Mul(w)),
+        5 => Some(Row::ImulWide(w)),
+        6 => Some(Row::Div(w)),
+        7 => Some(Row::Idiv(w)),
         _ => None,
     }
 }
 
-fn step_row(full: bool, middle: u8) -> Option<Row>
-    ensures { result ≡ spec.step_row full middle }
+fn step_row(w: bool, reg_field: u8) -> Option<Row>
+    ensures { result ≡ spec.step_row w reg_field }
 {
-    match (full, middle) {
-        (_, 0) => Some(Row::Inc(full)),
-        (_, 1) => Some(Row::Dec(full)),
+    match (w, reg_field) {
+        (_, 0) => Some(Row::Inc(w)),
+        (_, 1) => Some(Row::Dec(w)),
         (true, 2) => Some(Row::CallTo),
         (true, 4) => Some(Row::JmpTo),
         (true, 6) => Some(Row::Push),
@@ -33,56 +33,56 @@ fn step_row(full: bool, middle: u8) -> Option<Row>
     }
 }
 
-fn first_row(row: Row, middle: u8) -> Option<Row>
-    ensures { result ≡ spec.first_row row middle }
+fn first_row(row: Row, reg_field: u8) -> Option<Row>
+    ensures { result ≡ spec.first_row row reg_field }
 {
-    match middle {
+    match reg_field {
         0 => Some(row),
         _ => None,
     }
 }
 
-fn shift_imm(op: Option<ShiftOp>, full: bool) -> Option<Row>
-    ensures { result ≡ spec.shift_row op (λ op. Row.ShiftImm op full) }
+fn shift_imm(op: Option<ShiftOp>, w: bool) -> Option<Row>
+    ensures { result ≡ spec.shift_row op (λ op. Row.ShiftImm op w) }
 {
     match op {
         None => None,
-        Some(op) => Some(Row::ShiftImm(op, full)),
+        Some(op) => Some(Row::ShiftImm(op, w)),
     }
 }
 
-fn shift_one(op: Option<ShiftOp>, full: bool) -> Option<Row>
-    ensures { result ≡ spec.shift_row op (λ op. Row.ShiftOne op full) }
+fn shift_one(op: Option<ShiftOp>, w: bool) -> Option<Row>
+    ensures { result ≡ spec.shift_row op (λ op. Row.ShiftOne op w) }
 {
     match op {
         None => None,
-        Some(op) => Some(Row::ShiftOne(op, full)),
+        Some(op) => Some(Row::ShiftOne(op, w)),
     }
 }
 
-fn shift_cl(op: Option<ShiftOp>, full: bool) -> Option<Row>
-    ensures { result ≡ spec.shift_row op (λ op. Row.ShiftCl op full) }
+fn shift_cl(op: Option<ShiftOp>, w: bool) -> Option<Row>
+    ensures { result ≡ spec.shift_row op (λ op. Row.ShiftCl op w) }
 {
     match op {
         None => None,
-        Some(op) => Some(Row::ShiftCl(op, full)),
+        Some(op) => Some(Row::ShiftCl(op, w)),
     }
 }
 
-/// The row of a group that ModRM's middle field names. F6 and F7 have none at 1, and the shifts
+/// The row of a group that ModRM's reg field names. F6 and F7 have none at 1, and the shifts
 /// none at 2, 3 and 6.
-pub fn member(group: Group, middle: u8) -> Option<Row>
-    ensures row { result ≡ spec.member_of group middle }
+pub fn member(group: Group, reg_field: u8) -> Option<Row>
+    ensures row { result ≡ spec.member_of group reg_field }
 {
     match group {
-        Group::Pops => first_row(Row::Pop, middle),
-        Group::Moves(full) => first_row(Row::MovImm(full), middle),
-        Group::Units(full) => unit_row(full, middle),
-        Group::Steps(full) => step_row(full, middle),
-        Group::ShiftsImm(full) => shift_imm(shift_at(middle), full),
-        Group::ShiftsOne(full) => shift_one(shift_at(middle), full),
-        Group::ShiftsCl(full) => shift_cl(shift_at(middle), full),
-        Group::Sets(cond) => first_row(Row::Setcc(cond), middle),
-        Group::Nops => first_row(Row::NopLong, middle),
+        Group::Pops => first_row(Row::Pop, reg_field),
+        Group::Moves(w) => first_row(Row::MovImm(w), reg_field),
+        Group::Units(w) => unit_row(w, reg_field),
+        Group::Steps(w) => step_row(w, reg_field),
+        Group::ShiftsImm(w) => shift_imm(shift_at(reg_field), w),
+        Group::ShiftsOne(w) => shift_one(shift_at(reg_field), w),
+        Group::ShiftsCl(w) => shift_cl(shift_at(reg_field), w),
+        Group::Sets(cond) => first_row(Row::Setcc(cond), reg_field),
+        Group::Nops => first_row(Row::NopLong, reg_field),
     }
 }

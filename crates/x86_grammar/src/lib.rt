@@ -15,8 +15,8 @@ mod rows;
 mod spelling;
 
 pub use facts::{
-    can_half, half_in, has_operand, imm_size, key_of, known_fit, known_half, prefixes_fit, size_in,
-    width_of,
+    has_operand, has_operand_size, imm_size, known_fit, known_operand_size, opcode_of,
+    operand_size_in, prefixes_fit, size_in, width_of,
 };
 pub use form_laws::forms_are_right;
 pub use fronts::front_laws;

@@ -2,7 +2,7 @@ ghost use Rattle.std.specs.Prelude.{◌≡◌, ◌<◌, ◌/◌, ◌%◌, slice_
 ghost use Rattle.std.specs.Prelude.{ℕ, true, Some};
 ghost use Rattle.x86_grammar.specs.declared.row.Row.{Row};
 ghost use Rattle.x86_grammar.specs.Table.{entry_of, row_at};
-ghost use Rattle.x86_grammar.specs.Rows.{key_of, middle_of, fits_middle};
+ghost use Rattle.x86_grammar.specs.Rows.{opcode_of, reg_field_of, fits_reg_field};
 
 use crate::row::{Entry, Group, Row};
 use x86_types::{AluOp, Cond, Reg};
@@ -44,16 +44,16 @@ macro_rules! regs {
 }
 
 macro_rules! moves {
-    ($full:expr) => {
+    ($w:expr) => {
         [
-            Entry::One(Row::MovReg(Reg::Eax, $full)),
-            Entry::One(Row::MovReg(Reg::Ecx, $full)),
-            Entry::One(Row::MovReg(Reg::Edx, $full)),
-            Entry::One(Row::MovReg(Reg::Ebx, $full)),
-            Entry::One(Row::MovReg(Reg::Esp, $full)),
-            Entry::One(Row::MovReg(Reg::Ebp, $full)),
-            Entry::One(Row::MovReg(Reg::Esi, $full)),
-            Entry::One(Row::MovReg(Reg::Edi, $full)),
+            Entry::One(Row::MovReg(Reg::Eax, $w)),
+            Entry::One(Row::MovReg(Reg::Ecx, $w)),
+            Entry::One(Row::MovReg(Reg::Edx, $w)),
+            Entry::One(Row::MovReg(Reg::Ebx, $w)),
+            Entry::One(Row::MovReg(Reg::Esp, $w)),
+            Entry::One(Row::MovReg(Reg::Ebp, $w)),
+            Entry::One(Row::MovReg(Reg::Esi, $w)),
+            Entry::One(Row::MovReg(Reg::Edi, $w)),
         ]
     };
 }
@@ -328,19 +328,19 @@ pub static ENTRIES: [[Entry; 8]; 64] = [
 ];
 
 /// What the opcode says; 256 stands for 0F before the byte, and beyond that there is nothing.
-pub fn entry_at(key: u16) -> Entry
-    ensures entry { result ≡ entry_of key }
+pub fn entry_at(opcode: u16) -> Entry
+    ensures entry { result ≡ entry_of opcode }
 {
-    if key < 0x200 {
-        ENTRIES[key as usize / 8][key as usize % 8]
+    if opcode < 0x200 {
+        ENTRIES[opcode as usize / 8][opcode as usize % 8]
     } else {
         Entry::Nothing
     }
 }
 
-/// The map has each row at its opcode and middle field, and no other row there.
+/// The map has each row at its opcode and reg field, and no other row there.
 pub fn opcode_map_is_right()
-    ensures right { (key n : ℕ) (r : Row) → key < 0x200 → n < 8 → row_at key n ≡ Some r →
-        (key_of r ≡ key) × (fits_middle (middle_of r) n ≡ true) }
-    ensures whole { (r : Row) (n : ℕ) → fits_middle (middle_of r) n ≡ true → row_at (key_of r) n ≡ Some r }
+    ensures right { (opcode n : ℕ) (r : Row) → opcode < 0x200 → n < 8 → row_at opcode n ≡ Some r →
+        (opcode_of r ≡ opcode) × (fits_reg_field (reg_field_of r) n ≡ true) }
+    ensures whole { (r : Row) (n : ℕ) → fits_reg_field (reg_field_of r) n ≡ true → row_at (opcode_of r) n ≡ Some r }
 {}

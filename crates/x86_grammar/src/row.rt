@@ -78,7 +78,7 @@ pub enum Row {
     BswapReg(Reg),
 }
 
-/// Rows that share their opcode and are told apart by ModRM's middle field. Intel SDM volume 2,
+/// Rows that share their opcode and are told apart by ModRM's reg field. Intel SDM volume 2,
 /// table A-6.
 #[derive(Clone, Copy)]
 pub enum Group {
@@ -105,20 +105,20 @@ pub enum Entry {
 /// 2.1.1.
 #[derive(Clone, Copy)]
 pub struct Counts {
-    pub halves: u8,
+    pub operand_sizes: u8,
     pub segments: u8,
     pub hints: u8,
     pub repeats: u8,
 }
 
-/// A row with what it is used on: whether 66 makes width Two, whether F3 stands, ModRM's middle
-/// field, its operand and the number at the end. No `rm`: any will do, or ModRM doesn't stand.
+/// A row with what it is used on: whether 66 makes width Two, whether F3 stands, ModRM's reg
+/// field, its operand and the immediate. No `rm`: any will do, or ModRM doesn't stand.
 #[derive(Clone, Copy)]
 pub struct Form {
     pub row: Row,
-    pub half: bool,
+    pub operand_size: bool,
     pub rep: bool,
-    pub middle: u8,
+    pub reg_field: u8,
     pub rm: Option<Rm>,
     pub imm: u32,
 }
@@ -151,7 +151,7 @@ pub struct Prefixes {
     pub f3: F3,
 }
 
-/// The number at the end of a row: none, of 8, 16 or 32 bits, or of the operand's width, by the w bit. Intel SDM
+/// The immediate of a row: none, of 8, 16 or 32 bits, or of the operand's width, by the w bit. Intel SDM
 /// volume 2, section 3.1.1.1 ("ib", "iw", "id").
 #[derive(Clone, Copy)]
 pub enum ImmSize {
@@ -163,7 +163,7 @@ pub enum ImmSize {
 }
 
 /// What is known of a row: its opcode, with 0x100 for 0F before the byte, whether ModRM stands behind it, ModRM's
-/// reg field, its prefixes, and the number at the end.
+/// reg field, its prefixes, and the immediate.
 #[derive(Clone, Copy)]
 pub struct Attributes {
     pub opcode: u16,

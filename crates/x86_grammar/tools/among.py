@@ -3,7 +3,7 @@
 
 With --check it writes nothing, and ends with 1 where the file differs. Each lemma says that what the row means has the row among
 its forms: at which place of the list, by which of the helpers above the clauses, and why the
-middle field and the number are those of the form.
+reg field and the number are those of the form.
 """
 from generated import finish, read
 from rows import ROWS
@@ -13,9 +13,9 @@ END = "-- ---- the end of the rows\n"
 BY_NAME = {row[0]: row for row in ROWS}
 NAME = {"o": "op", "s": "op", "w": "w", "r": "r", "c": "c"}
 TYPE = {"o": "AluOp", "s": "ShiftOp", "w": "Bool", "r": "Reg", "c": "Cond"}
-NO_NUMBER = "(no_number v x.number)"
-MIDDLE = {"reg": "(sym (reg_again n x.middle))", "alu": "(sym (alu_again n x.middle))",
-          "none": "(x.known refl)", "shift": "(middle_is (number_of_shift op) n x.suits.middle)"}
+NO_NUMBER = "(no_number v x.imm)"
+MIDDLE = {"reg": "(sym (reg_again n x.reg_field))", "alu": "(sym (alu_again n x.reg_field))",
+          "none": "(x.known refl)", "shift": "(reg_field_is (number_of_shift op) n x.suits.reg_field)"}
 SAME = "same_form _ _ _ _ _ _ _ _ _ _ _"
 
 
@@ -28,9 +28,9 @@ def row_of(name):
     return "(" + " ".join(words) + ")" if len(words) > 1 else words[0]
 
 
-def middle(name, kind):
+def reg_field(name, kind):
     if kind == "is":
-        return f"(middle_is {BY_NAME[name][3]} n x.suits.middle)"
+        return f"(reg_field_is {BY_NAME[name][3]} n x.suits.reg_field)"
     return MIDDLE[kind]
 
 
@@ -41,9 +41,9 @@ def at(place, proof):
     return text
 
 
-def clause(name, place, proof, rm="m", half="h", rep="p", number="v", first=None):
+def clause(name, place, proof, rm="m", operand_size="h", rep="p", number="v", first=None):
     head = " ".join([name + "_has"] + (fields(name) if first is None else [first]))
-    parts = f"{half} {rep} n {rm} {number}"
+    parts = f"{operand_size} {rep} n {rm} {number}"
     return f"{head} {parts} i x e = by_built _ {parts} i _ e ({at(place, proof)})"
 
 
@@ -57,30 +57,30 @@ def lemma(name, clauses):
 def sized(name, kind, number):
     base = [NAME[p] for p in BY_NAME[name][1] if p != "w"]
     row = "(row." + name + " " + " ".join(base) + ")" if base else "row." + name
-    return (f"sized_form {row} w h p _ _ _ _ _ x.suits.half x.suits.rep "
-            f"{middle(name, kind)} {number}")
+    return (f"sized_form {row} w h p _ _ _ _ _ x.suits.operand_size x.suits.rep "
+            f"{reg_field(name, kind)} {number}")
 
 
 def fixed(name, kind, number):
-    return f"fixed_form _ h p _ _ _ _ _ x.suits.half x.suits.rep {middle(name, kind)} {number}"
+    return f"fixed_form _ h p _ _ _ _ _ x.suits.operand_size x.suits.rep {reg_field(name, kind)} {number}"
 
 
 def wide(name, kind, number=NO_NUMBER, place=0, rm="m", first=None):
-    proof = f"{SAME} refl refl (no_rep p x.suits.rep) {middle(name, kind)} {number}"
-    return [clause(name, place, proof, rm=rm, half=h, first=first) for h in ("false", "true")]
+    proof = f"{SAME} refl refl (no_rep p x.suits.rep) {reg_field(name, kind)} {number}"
+    return [clause(name, place, proof, rm=rm, operand_size=h, first=first) for h in ("false", "true")]
 
 
-def signed(name, kind, before, after, width, half, form, same):
+def signed(name, kind, before, after, width, operand_size, form, same):
     """The byte with its sign."""
-    parts = f"{half} p n m v"
+    parts = f"{operand_size} p n m v"
     has = " ".join([name + "_has"] + fields(name))
     return (f"{has} {parts} i x e = by_built _ {parts} i _ e ({before}In-signed {width} v "
-            f"(λ b. {form}) (form_of {row_of(name)} {parts}) x.number ({same}){after})")
+            f"(λ b. {form}) (form_of {row_of(name)} {parts}) x.imm ({same}){after})")
 
 
 def signed_wide(name, kind, before, after, form):
     return [signed(name, kind, before, after, w, h, form.replace("WIDTH", w),
-                   f"{SAME} refl refl (no_rep p x.suits.rep) {middle(name, kind)} refl")
+                   f"{SAME} refl refl (no_rep p x.suits.rep) {reg_field(name, kind)} refl")
             for h, w in (("false", "Four"), ("true", "Two"))]
 
 
@@ -90,7 +90,7 @@ def signed_plain(name):
 
 
 def tested(name, literal, instr, place, rep):
-    same = f"{SAME} refl (no_half h x.suits.half) {rep} (x.known refl) (eqb-true _ _ t.0)"
+    same = f"{SAME} refl (no_operand_size h x.suits.operand_size) {rep} (x.known refl) (eqb-true _ _ t.0)"
     return [f"{name}_has h p n m v i x e =",
             f"    let g = chosen (eqb v {literal}) (Some instr.{instr}) None (Some i) e in",
             "    elim g [",
@@ -98,7 +98,7 @@ def tested(name, literal, instr, place, rep):
             "      | inr t ↦ absurd (none_some t.1)", "    ]"]
 
 
-# place in the list, middle field, whether a number stands
+# place in the list, reg field, whether a number stands
 SIZED = {"AluToRm": (0, "reg", 0), "AluAcc": (1, "none", 1), "AluImm": (0, "alu", 1),
          "TestRm": (0, "reg", 0), "TestAcc": (1, "none", 1), "TestImm": (0, "is", 1),
          "MovToRm": (0, "reg", 0), "MovReg": (1, "none", 1), "MovImm": (0, "is", 1),
@@ -149,15 +149,15 @@ def clauses(name):
     if name in ("PushByte", "JmpShort", "JccShort"):
         return signed_plain(name)
     if name == "XchgAcc":
-        lines = ["XchgAcc_has reg.Eax h p n m v i x e = absurd (false≢true x.suits.middle)"]
+        lines = ["XchgAcc_has reg.Eax h p n m v i x e = absurd (false≢true x.suits.reg_field)"]
         for r in "Ecx Edx Ebx Esp Ebp Esi Edi".split():
             lines += wide(name, "none", place=1, first="reg." + r)
         return lines
     if name in ("Movs", "Stos"):
-        return [clause(name, 0, f"{SAME} (ap row.{name} (full_back w h)) "
-                       f"(half_back w h x.suits.half) refl (x.known refl) {NO_NUMBER}")]
+        return [clause(name, 0, f"{SAME} (ap row.{name} (w_back w h)) "
+                       f"(operand_size_back w h x.suits.operand_size) refl (x.known refl) {NO_NUMBER}")]
     if name == "Ret":
-        proof = f"{SAME} refl (no_half h x.suits.half) refl (x.known refl) {NO_NUMBER}"
+        proof = f"{SAME} refl (no_operand_size h x.suits.operand_size) refl (x.known refl) {NO_NUMBER}"
         return [clause(name, 1, proof, rep="false"), clause(name, 2, proof, rep="true")]
     if name == "RetDrop":
         proof = fixed(name, "none", "refl")

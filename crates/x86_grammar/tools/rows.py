@@ -9,18 +9,18 @@ from generated import finish, read
 
 # name, payload (o: operation, s: shift, w: w bit, r: register, c: condition), opcode (0x100 for 0F before it), reg field of
 # ModRM or None, ModRM, prefixes (66: makes width Two; 66w: where w is 1; 66*, 2E*: any number; 3E: one; F3?: may stand; F3:
-# must stand), bytes of the number at the end (w: the operand's), meaning
+# must stand), bytes of the immediate (w: the operand's), meaning
 ROWS = [
     ("AluToRm", "ow", "8 * number_of_alu op + bit w", None, 1, "66w", "0",
-     "Some (instr.Alu op (width_of w half) m (src.Reg (reg_of n)))"),
+     "Some (instr.Alu op (width_of w operand_size) m (src.Reg (reg_of n)))"),
     ("AluToReg", "ow", "8 * number_of_alu op + (2 + bit w)", None, 1, "66w", "0",
-     "Some (instr.Alu op (width_of w half) (rm.Reg (reg_of n)) (src_of m))"),
+     "Some (instr.Alu op (width_of w operand_size) (rm.Reg (reg_of n)) (src_of m))"),
     ("AluAcc", "ow", "8 * number_of_alu op + (4 + bit w)", None, 0, "66w", "w",
-     "Some (instr.Alu op (width_of w half) (rm.Reg Eax) (src.Imm v))"),
+     "Some (instr.Alu op (width_of w operand_size) (rm.Reg Eax) (src.Imm v))"),
     ("IncReg", "r", "0x40 + number_of_reg r", None, 0, "66", "0",
-     "Some (instr.Inc (width_of true half) (rm.Reg r))"),
+     "Some (instr.Inc (width_of true operand_size) (rm.Reg r))"),
     ("DecReg", "r", "0x48 + number_of_reg r", None, 0, "66", "0",
-     "Some (instr.Dec (width_of true half) (rm.Reg r))"),
+     "Some (instr.Dec (width_of true operand_size) (rm.Reg r))"),
     ("PushReg", "r", "0x50 + number_of_reg r", None, 0, "", "0",
      "Some (instr.Push (src.Reg r))"),
     ("PopReg", "r", "0x58 + number_of_reg r", None, 0, "", "0",
@@ -28,65 +28,65 @@ ROWS = [
     ("PushWord", "", "0x68", None, 0, "", "4",
      "Some (instr.Push (src.Imm v))"),
     ("ImulWord", "", "0x69", None, 1, "66", "2/4",
-     "Some (instr.ImulBy (width_of true half) (reg_of n) m v)"),
+     "Some (instr.ImulBy (width_of true operand_size) (reg_of n) m v)"),
     ("PushByte", "", "0x6A", None, 0, "", "1",
      "Some (instr.Push (src.Imm (signed Four v)))"),
     ("ImulByte", "", "0x6B", None, 1, "66", "1",
-     "Some (instr.ImulBy (width_of true half) (reg_of n) m (signed (width_of true half) v))"),
+     "Some (instr.ImulBy (width_of true operand_size) (reg_of n) m (signed (width_of true operand_size) v))"),
     ("JccShort", "c", "0x70 + number_of_cond c", None, 0, "", "1",
      "Some (instr.Jcc c (signed Four v))"),
     ("AluImm", "w", "0x80 + bit w", None, 1, "66w", "w",
-     "Some (instr.Alu (alu_of n) (width_of w half) m (src.Imm v))"),
+     "Some (instr.Alu (alu_of n) (width_of w operand_size) m (src.Imm v))"),
     ("AluByte", "", "0x83", None, 1, "66", "1",
-     "Some (instr.Alu (alu_of n) (width_of true half) m (src.Imm (signed (width_of true half) v)))"),
+     "Some (instr.Alu (alu_of n) (width_of true operand_size) m (src.Imm (signed (width_of true operand_size) v)))"),
     ("TestRm", "w", "0x84 + bit w", None, 1, "66w", "0",
-     "Some (instr.Test (width_of w half) m (src.Reg (reg_of n)))"),
+     "Some (instr.Test (width_of w operand_size) m (src.Reg (reg_of n)))"),
     ("Xchg", "w", "0x86 + bit w", None, 1, "66w", "0",
-     "Some (instr.Xchg (width_of w half) m (reg_of n))"),
+     "Some (instr.Xchg (width_of w operand_size) m (reg_of n))"),
     ("MovToRm", "w", "0x88 + bit w", None, 1, "66w", "0",
-     "Some (instr.Mov (width_of w half) m (src.Reg (reg_of n)))"),
+     "Some (instr.Mov (width_of w operand_size) m (src.Reg (reg_of n)))"),
     ("MovToReg", "w", "0x8A + bit w", None, 1, "66w", "0",
-     "Some (instr.Mov (width_of w half) (rm.Reg (reg_of n)) (src_of m))"),
+     "Some (instr.Mov (width_of w operand_size) (rm.Reg (reg_of n)) (src_of m))"),
     ("Lea", "", "0x8D", None, 1, "66 2E*", "0",
-     "lea (width_of true half) (reg_of n) m"),
+     "lea (width_of true operand_size) (reg_of n) m"),
     ("Pop", "", "0x8F", 0, 1, "", "0",
      "Some (instr.Pop m)"),
     ("XchgAcc", "r", "0x90 + number_of_reg r", "x", 0, "66", "0",
-     "Some (instr.Xchg (width_of true half) (rm.Reg Eax) r)"),
+     "Some (instr.Xchg (width_of true operand_size) (rm.Reg Eax) r)"),
     ("Nop", "", "0x90", None, 0, "66*", "0",
      "Some instr.Nop"),
     ("Extend", "", "0x98", None, 0, "66", "0",
-     "Some (instr.Extend (width_of true half))"),
+     "Some (instr.Extend (width_of true operand_size))"),
     ("Spread", "", "0x99", None, 0, "66", "0",
-     "Some (instr.Spread (width_of true half))"),
+     "Some (instr.Spread (width_of true operand_size))"),
     ("MovLoad", "w", "0xA0 + bit w", None, 0, "66w", "4",
-     "Some (instr.Mov (width_of w half) (rm.Reg Eax) (src.Mem (number_alone v)))"),
+     "Some (instr.Mov (width_of w operand_size) (rm.Reg Eax) (src.Mem (number_alone v)))"),
     ("MovStore", "w", "0xA2 + bit w", None, 0, "66w", "4",
-     "Some (instr.Mov (width_of w half) (rm.Mem (number_alone v)) (src.Reg Eax))"),
+     "Some (instr.Mov (width_of w operand_size) (rm.Mem (number_alone v)) (src.Reg Eax))"),
     ("Movs", "w", "0xA4 + bit w", None, 0, "66w F3?", "0",
-     "Some (instr.Movs (width_of w half) rep)"),
+     "Some (instr.Movs (width_of w operand_size) rep)"),
     ("TestAcc", "w", "0xA8 + bit w", None, 0, "66w", "w",
-     "Some (instr.Test (width_of w half) (rm.Reg Eax) (src.Imm v))"),
+     "Some (instr.Test (width_of w operand_size) (rm.Reg Eax) (src.Imm v))"),
     ("Stos", "w", "0xAA + bit w", None, 0, "66w F3?", "0",
-     "Some (instr.Stos (width_of w half) rep)"),
+     "Some (instr.Stos (width_of w operand_size) rep)"),
     ("MovReg", "rw", "0xB0 + (8 * bit w + number_of_reg r)", None, 0, "66w", "w",
-     "Some (instr.Mov (width_of w half) (rm.Reg r) (src.Imm v))"),
+     "Some (instr.Mov (width_of w operand_size) (rm.Reg r) (src.Imm v))"),
     ("ShiftImm", "sw", "0xC0 + bit w", "s", 1, "66w", "1",
-     "Some (instr.Shift op (width_of w half) m (count.Imm v))"),
+     "Some (instr.Shift op (width_of w operand_size) m (count.Imm v))"),
     ("RetDrop", "", "0xC2", None, 0, "", "2",
      "Some (instr.Ret v)"),
     ("Ret", "", "0xC3", None, 0, "F3?", "0",
      "Some (instr.Ret 0)"),
     ("MovImm", "w", "0xC6 + bit w", 0, 1, "66w", "w",
-     "Some (instr.Mov (width_of w half) m (src.Imm v))"),
+     "Some (instr.Mov (width_of w operand_size) m (src.Imm v))"),
     ("Leave", "", "0xC9", None, 0, "", "0",
      "Some instr.Leave"),
     ("Int80", "", "0xCD", None, 0, "", "1",
      "if v == 0x80 then Some instr.Int80 else None"),
     ("ShiftOne", "sw", "0xD0 + bit w", "s", 1, "66w", "0",
-     "Some (instr.Shift op (width_of w half) m (count.Imm 1))"),
+     "Some (instr.Shift op (width_of w operand_size) m (count.Imm 1))"),
     ("ShiftCl", "sw", "0xD2 + bit w", "s", 1, "66w", "0",
-     "Some (instr.Shift op (width_of w half) m count.Cl)"),
+     "Some (instr.Shift op (width_of w operand_size) m count.Cl)"),
     ("CallNear", "", "0xE8", None, 0, "", "4",
      "Some (instr.Call v)"),
     ("JmpNear", "", "0xE9", None, 0, "", "4",
@@ -94,25 +94,25 @@ ROWS = [
     ("JmpShort", "", "0xEB", None, 0, "", "1",
      "Some (instr.Jmp (signed Four v))"),
     ("TestImm", "w", "0xF6 + bit w", 0, 1, "66w", "w",
-     "Some (instr.Test (width_of w half) m (src.Imm v))"),
+     "Some (instr.Test (width_of w operand_size) m (src.Imm v))"),
     ("Not", "w", "0xF6 + bit w", 2, 1, "66w", "0",
-     "Some (instr.Not (width_of w half) m)"),
+     "Some (instr.Not (width_of w operand_size) m)"),
     ("Neg", "w", "0xF6 + bit w", 3, 1, "66w", "0",
-     "Some (instr.Neg (width_of w half) m)"),
+     "Some (instr.Neg (width_of w operand_size) m)"),
     ("Mul", "w", "0xF6 + bit w", 4, 1, "66w", "0",
-     "Some (instr.Mul (width_of w half) m)"),
+     "Some (instr.Mul (width_of w operand_size) m)"),
     ("ImulWide", "w", "0xF6 + bit w", 5, 1, "66w", "0",
-     "Some (instr.ImulWide (width_of w half) m)"),
+     "Some (instr.ImulWide (width_of w operand_size) m)"),
     ("Div", "w", "0xF6 + bit w", 6, 1, "66w", "0",
-     "Some (instr.Div (width_of w half) m)"),
+     "Some (instr.Div (width_of w operand_size) m)"),
     ("Idiv", "w", "0xF6 + bit w", 7, 1, "66w", "0",
-     "Some (instr.Idiv (width_of w half) m)"),
+     "Some (instr.Idiv (width_of w operand_size) m)"),
     ("Cld", "", "0xFC", None, 0, "", "0",
      "Some instr.Cld"),
     ("Inc", "w", "0xFE + bit w", 0, 1, "66w", "0",
-     "Some (instr.Inc (width_of w half) m)"),
+     "Some (instr.Inc (width_of w operand_size) m)"),
     ("Dec", "w", "0xFE + bit w", 1, 1, "66w", "0",
-     "Some (instr.Dec (width_of w half) m)"),
+     "Some (instr.Dec (width_of w operand_size) m)"),
     ("CallTo", "", "0xFF", 2, 1, "3E", "0",
      "Some (instr.CallTo m)"),
     ("JmpTo", "", "0xFF", 4, 1, "3E", "0",
@@ -124,7 +124,7 @@ ROWS = [
     ("NopLong", "", "0x11F", 0, 1, "66* 2E*", "0",
      "Some instr.Nop"),
     ("Cmov", "c", "0x140 + number_of_cond c", None, 1, "66", "0",
-     "Some (instr.Cmov c (width_of true half) (reg_of n) m)"),
+     "Some (instr.Cmov c (width_of true operand_size) (reg_of n) m)"),
     ("JccNear", "c", "0x180 + number_of_cond c", None, 0, "", "4",
      "Some (instr.Jcc c v)"),
     ("Setcc", "c", "0x190 + number_of_cond c", 0, 1, "", "0",
@@ -138,17 +138,17 @@ ROWS = [
     ("ShrdCl", "", "0x1AD", None, 1, "", "0",
      "Some (instr.Shrd m (reg_of n) count.Cl)"),
     ("Imul", "", "0x1AF", None, 1, "66", "0",
-     "Some (instr.Imul (width_of true half) (reg_of n) m)"),
+     "Some (instr.Imul (width_of true operand_size) (reg_of n) m)"),
     ("MovzxByte", "", "0x1B6", None, 1, "66", "0",
-     "Some (instr.Movzx (width_of true half) One (reg_of n) m)"),
+     "Some (instr.Movzx (width_of true operand_size) One (reg_of n) m)"),
     ("MovzxWord", "", "0x1B7", None, 1, "", "0",
      "Some (instr.Movzx Four Two (reg_of n) m)"),
     ("Bsf", "", "0x1BC", None, 1, "66", "0",
-     "Some (instr.Bsf (width_of true half) (reg_of n) m)"),
+     "Some (instr.Bsf (width_of true operand_size) (reg_of n) m)"),
     ("Bsr", "", "0x1BD", None, 1, "66", "0",
-     "Some (instr.Bsr (width_of true half) (reg_of n) m)"),
+     "Some (instr.Bsr (width_of true operand_size) (reg_of n) m)"),
     ("MovsxByte", "", "0x1BE", None, 1, "66", "0",
-     "Some (instr.Movsx (width_of true half) One (reg_of n) m)"),
+     "Some (instr.Movsx (width_of true operand_size) One (reg_of n) m)"),
     ("MovsxWord", "", "0x1BF", None, 1, "", "0",
      "Some (instr.Movsx Four Two (reg_of n) m)"),
     ("BswapReg", "r", "0x1C8 + number_of_reg r", None, 0, "", "0",
@@ -261,10 +261,11 @@ sized w = known w false false false Never
 abbrev pub sized_2e : Prefixes
 sized_2e = known true false true false Never
 
--- any number of 66, and of 66 and 2E
+-- any number of 66
 abbrev pub any_66 : Prefixes
 any_66 = known false true false false Never
 
+-- any number of 66 and of 2E
 abbrev pub any_66_2e : Prefixes
 any_66_2e = known false true true false Never
 
@@ -285,10 +286,11 @@ abbrev pub not_eax : Reg → RegField
 not_eax reg.Eax = Nowhere
 not_eax _ = Any
 
--- a row with ModRM, and one without
+-- a row with ModRM
 abbrev pub modrm : ℕ → RegField → Prefixes → ImmSize → Attributes
 modrm o n p i = record { opcode = o; modrm = true; reg_field = n; prefixes = p; imm = i }
 
+-- a row without ModRM
 abbrev pub alone : ℕ → RegField → Prefixes → ImmSize → Attributes
 alone o n p i = record { opcode = o; modrm = false; reg_field = n; prefixes = p; imm = i }
 
@@ -298,17 +300,18 @@ abbrev pub attributes_of : Row → Attributes
 
 ROWS_END = """
 -- the row's opcode
-abbrev pub key_of : Row → ℕ
-key_of r = (attributes_of r).opcode
+abbrev pub opcode_of : Row → ℕ
+opcode_of r = (attributes_of r).opcode
 
 -- the values of ModRM's reg field
-abbrev pub middle_of : Row → RegField
-middle_of r = (attributes_of r).reg_field
+abbrev pub reg_field_of : Row → RegField
+reg_field_of r = (attributes_of r).reg_field
 
-abbrev pub fits_middle : RegField → ℕ → Bool
-fits_middle Any n = true
-fits_middle (Is m) n = m == n
-fits_middle Nowhere n = false
+-- whether a reg field is one of them
+abbrev pub fits_reg_field : RegField → ℕ → Bool
+fits_reg_field Any n = true
+fits_reg_field (Is m) n = m == n
+fits_reg_field Nowhere n = false
 
 -- whether ModRM stands behind the opcode
 abbrev pub has_operand : Row → Bool
@@ -496,7 +499,7 @@ def rows_code():
 
 MEANING_HEAD = """-- Written by tools/rows.py.
 -- What the parts of a spelling mean: the row, whether 66 makes width Two, whether F3 stands, ModRM's
--- middle field, its operand, and the number at the end.
+-- reg field, its operand, and the immediate.
 use Rattle.std.specs.Prelude.{ℕ, Bool, true, Option, Some, None, if◌then◌else◌, ◌==◌}
 use Rattle.x86_types.specs.declared.operand.Reg.{Reg}
 use Rattle.x86_types.specs.declared.operand.Reg.TheVariants.{Eax}
@@ -516,6 +519,7 @@ use Rattle.x86_grammar.specs.declared.row.Row.TheVariants as row
 use Rattle.x86_grammar.specs.Attributes.{width_of}
 use Rattle.x86_grammar.specs.Parts.{signed}
 
+-- an operand as a source
 abbrev pub src_of : Rm → Src
 src_of (rm.Reg r) = src.Reg r
 src_of (rm.Mem a) = src.Mem a
@@ -525,16 +529,18 @@ abbrev pub lea : Width → Reg → Rm → Option Instr
 lea w to (rm.Reg r) = None
 lea w to (rm.Mem a) = Some (instr.Lea w to a)
 
+-- an address without base and index
 abbrev pub number_alone : ℕ → Address
 number_alone d = record { base = None; index = None; scale = 1; disp = d }
 
+-- the instruction of a row with those parts
 abbrev pub build : Row → Bool → Bool → ℕ → Rm → ℕ → Option Instr
 """
 
 
 def meaning_spec():
     return MEANING_HEAD + "\n".join(
-        f"build {pattern(r)} half rep n m v = {r[7]}" for r in ROWS) + "\n"
+        f"build {pattern(r)} operand_size rep n m v = {r[7]}" for r in ROWS) + "\n"
 
 
 AGAIN_HEAD = """-- Written by tools/rows.py.
@@ -548,9 +554,9 @@ use Rattle.x86_types.specs.declared.operation.Cond.TheVariants as cond
 use Rattle.x86_grammar.specs.declared.row.Row.{Row}
 use Rattle.x86_grammar.specs.declared.row.Row.TheVariants as row
 use Rattle.x86_grammar.specs.Table.{entry_of, row_at}
-use Rattle.x86_grammar.specs.Rows.{key_of, middle_of, fits_middle}
+use Rattle.x86_grammar.specs.Rows.{opcode_of, reg_field_of, fits_reg_field}
 
-pub row_again : (r : Row) (n : ℕ) → fits_middle (middle_of r) n ≡ true → row_at (key_of r) n ≡ Some r
+pub row_again : (r : Row) (n : ℕ) → fits_reg_field (reg_field_of r) n ≡ true → row_at (opcode_of r) n ≡ Some r
 unfolding entry_of
 """
 

@@ -232,9 +232,9 @@ def unspelled(name, proof, rows):
                + proof.format(name=f"{name}_{at}", bytes=bytes_))
 
 
-def table(name, type_, rows):
+def table(comment, name, type_, rows):
     lines = " ∷\n    ".join(rows + ["[]"])
-    return f"abbrev pub {name} : {type_}\n{name} =\n    {lines}\n"
+    return f"-- {comment}\nabbrev pub {name} : {type_}\n{name} =\n    {lines}\n"
 
 
 def all_of(*tables):
@@ -280,8 +280,8 @@ def tables():
     text = read(path)
     begin = "-- ---- the tables, by tools/worked.py\n"
     text = text[:text.index(begin) + len(begin)]
-    text += "\n" + table("worked", "List (List ℕ × Instr)", rows)
-    text += "\n" + table("in_vain", "List (List ℕ)", vain)
+    text += "\n" + table("bytes with the instruction that they spell", "worked", "List (List ℕ × Instr)", rows)
+    text += "\n" + table("bytes that spell nothing", "in_vain", "List (List ℕ)", vain)
     text += """
 -- each row's bytes spell its instruction
 abbrev pub AllSpelled : Type 0

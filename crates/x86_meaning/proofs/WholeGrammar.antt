@@ -14,7 +14,7 @@ use Rattle.x86_grammar.specs.Rows.{has_operand}
 use Rattle.x86_grammar.specs.Attributes.{imm_size}
 use Rattle.x86_grammar.specs.Forms.{forms, In}
 use Rattle.x86_grammar.specs.Operand.{Operand, le}
-use Rattle.x86_grammar.specs.Spells.{no_counts, prefixes_fit, half_in, Spelling, bytes_of, Spells as SpellsWhole}
+use Rattle.x86_grammar.specs.Spells.{no_counts, prefixes_fit, operand_size_in, Spelling, spelling_bytes, Spells as SpellsWhole}
 use Rattle.x86_meaning.specs.Spells.{mov_word, word_bytes, sign_extended, Spells}
 use Rattle.x86_meaning.specs.Laws.{IsWholeSpelling, IsOnlySpelling}
 use Rattle.x86_meaning.proofs.Built.{Built, moves, jumps, calls, other, built}
@@ -26,17 +26,17 @@ abbrev bare : Form → Spelling
 bare f = record { prefixes = []; form = f; operand = record { m = 0; sib = 0; disp = 0 } }
 
 -- a form without prefixes and without an operand
-bare_spells : (f : Form) (i : Instr) → In f (forms i) → has_operand f.row ≡ false → prefixes_fit f.row no_counts ≡ true → f.half ≡ half_in f.row no_counts → f.rep ≡ false → f.imm < 256 ^ imm_size f.row f.half → (bytes : List ℕ) → bytes ≡ bytes_of (bare f) → length bytes ≤ 15 → SpellsWhole bytes i
-bare_spells f i among none fit half rep number bytes e short = record {
+bare_spells : (f : Form) (i : Instr) → In f (forms i) → has_operand f.row ≡ false → prefixes_fit f.row no_counts ≡ true → f.operand_size ≡ operand_size_in f.row no_counts → f.rep ≡ false → f.imm < 256 ^ imm_size f.row f.operand_size → (bytes : List ℕ) → bytes ≡ spelling_bytes (bare f) → length bytes ≤ 15 → SpellsWhole bytes i
+bare_spells f i among none fit operand_size rep number bytes e short = record {
   spelling = bare f;
   right = record {
     among = among;
     prefixes = tt;
     fit = fit;
-    half = half;
+    operand_size = operand_size;
     rep = rep;
     operand = λ h. let z : true ≡ false = sym h ∙ none in cc;
-    number = number;
+    imm = number;
   };
   bytes_are = e;
   short = short;
@@ -48,7 +48,7 @@ word_le n =
     let e3 : n / 16777216 % 256 ≡ n / 256 / 256 / 256 % 256 = omega arith in
     cc
 
-mov_bytes : (to : Reg) (n : ℕ) → (0xB8 + number_of_reg to) ∷ word_bytes n ≡ bytes_of (bare (plain (row.MovReg to true) Four n))
+mov_bytes : (to : Reg) (n : ℕ) → (0xB8 + number_of_reg to) ∷ word_bytes n ≡ spelling_bytes (bare (plain (row.MovReg to true) Four n))
 mov_bytes Eax n = ap (λ bs. 0xB8 ∷ bs) (word_le n)
 mov_bytes Ecx n = ap (λ bs. 0xB9 ∷ bs) (word_le n)
 mov_bytes Edx n = ap (λ bs. 0xBA ∷ bs) (word_le n)

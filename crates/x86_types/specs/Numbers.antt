@@ -12,11 +12,13 @@ use Rattle.x86_types.specs.declared.operation.AluOp.TheVariants as aluop
 use Rattle.x86_types.specs.declared.operation.Cond.{Cond}
 use Rattle.x86_types.specs.declared.operation.Cond.TheVariants as cond
 
+-- the bytes of a width
 abbrev pub size_of : Width → ℕ
 size_of width.One = 1
 size_of width.Two = 2
 size_of width.Four = 4
 
+-- the number of a register, as ModRM and SIB have it
 abbrev pub number_of_reg : Reg → ℕ
 number_of_reg reg.Eax = 0
 number_of_reg reg.Ecx = 1
@@ -38,6 +40,7 @@ reg_of (suc (suc (suc (suc (suc zero))))) = reg.Ebp
 reg_of (suc (suc (suc (suc (suc (suc zero)))))) = reg.Esi
 reg_of (suc (suc (suc (suc (suc (suc (suc n))))))) = reg.Edi
 
+-- the number of an operation: group 1
 abbrev pub number_of_alu : AluOp → ℕ
 number_of_alu aluop.Add = 0
 number_of_alu aluop.Or = 1
@@ -59,6 +62,7 @@ alu_of (suc (suc (suc (suc (suc zero))))) = aluop.Sub
 alu_of (suc (suc (suc (suc (suc (suc zero)))))) = aluop.Xor
 alu_of (suc (suc (suc (suc (suc (suc (suc n))))))) = aluop.Cmp
 
+-- the number of a shift: group 2
 abbrev pub number_of_shift : ShiftOp → ℕ
 number_of_shift shiftop.Rol = 0
 number_of_shift shiftop.Ror = 1
@@ -78,6 +82,7 @@ shift_of (suc (suc (suc (suc (suc (suc zero)))))) = None
 shift_of (suc (suc (suc (suc (suc (suc (suc zero))))))) = Some shiftop.Sar
 shift_of (suc (suc (suc (suc (suc (suc (suc (suc n)))))))) = None
 
+-- the number of a condition (tttn)
 abbrev pub number_of_cond : Cond → ℕ
 number_of_cond cond.O = 0
 number_of_cond cond.No = 1

@@ -36,7 +36,7 @@ ByteRegisterIsNumber = (r : Reg) → byte_register r ≡ byte_in (reg_of (number
 
 -- ---- other registers in the fields of an instruction
 
--- what a register field is: the index of an address, another whole register or its lower half, or one byte
+-- what a register field is: the index of an address, another whole register or its lower 16 bits, or one byte
 pub data RegisterField : Type 0 where
   Index : RegisterField
   Whole : RegisterField
@@ -51,17 +51,21 @@ field_of _ = Whole
 abbrev pub Renaming : Type 0
 Renaming = RegisterField → Reg → Reg
 
+-- another register where one is
 abbrev pub renamed_option : (Reg → Reg) → Option Reg → Option Reg
 renamed_option f None = None
 renamed_option f (Some r) = Some (f r)
 
+-- an address with other registers
 abbrev pub renamed_address : Renaming → Address → Address
 renamed_address f a = record { base = renamed_option (f Whole) a.base; index = renamed_option (f Index) a.index; scale = a.scale; disp = a.disp }
 
+-- an operand of that width with other registers
 abbrev pub renamed_rm : Renaming → Width → Rm → Rm
 renamed_rm f w (rm.Reg r) = rm.Reg (f (field_of w) r)
 renamed_rm f w (rm.Mem a) = rm.Mem (renamed_address f a)
 
+-- a source of that width with other registers
 abbrev pub renamed_src : Renaming → Width → Src → Src
 renamed_src f w (src.Reg r) = src.Reg (f (field_of w) r)
 renamed_src f w (src.Mem a) = src.Mem (renamed_address f a)

@@ -3,9 +3,9 @@ use Rattle.x86_grammar.specs.Table.{entry_of}
 use Rattle.x86_grammar.proofs.Bytes.{past}
 use Rattle.x86_grammar.proofs.opcode_map.entry_at.Goals as goal
 
-pub returns-then-key-lt512 : goal.returns-then-key-lt512
+pub returns-then-opcode-lt512 : goal.returns-then-opcode-lt512
 unfolding entry_of
-returns-then-key-lt512 c = record { entry = refl }
+returns-then-opcode-lt512 c = record { entry = refl }
 
-pub returns-else-key-lt512 : goal.returns-else-key-lt512
-returns-else-key-lt512 c = record { entry = sym (past c.args.key c.if-key-lt512.false) }
+pub returns-else-opcode-lt512 : goal.returns-else-opcode-lt512
+returns-else-opcode-lt512 c = record { entry = sym (past c.args.opcode c.if-opcode-lt512.false) }
