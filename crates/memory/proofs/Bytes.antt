@@ -1,5 +1,5 @@
 -- Known bytes of memory are below 256.
-use Rattle.std.proofs.Common.{◌≡◌, ◌≢◌, ℕ, zero, suc, ◌+◌, ◌-◌, ◌<◌, ◌==◌, ◌&&◌, Bool, true, false, cond, leb, ltb, List, [], ◌∷◌, length, slice_index, All, Option, Some, None, refl, sym, ◌∙◌, ap, subst, arith}
+use Rattle.std.proofs.Common.{◌≡◌, ℕ, zero, suc, ◌+◌, ◌-◌, ◌<◌, ◌==◌, ◌&&◌, Bool, true, false, cond, leb, ltb, List, [], ◌∷◌, length, slice_index, All, Option, Some, None, refl, subst, arith}
 use Rattle.std.specs.Option.{option_map}
 use Rattle.std.proofs.lemmas.List.Elements.{All-nil, All-cons, All-head, All-tail}
 use Rattle.x86_values.specs.declared.byte.Byte.{Byte}
@@ -7,7 +7,7 @@ use Rattle.x86_values.specs.declared.byte.Byte.TheVariants.{Known, Unspecified}
 use Rattle.x86_values.specs.Words.{IsByte}
 use Rattle.image.specs.declared.image.Segment.{Segment}
 use Rattle.image.specs.Addresses.{segment_at, segment_byte}
-use Rattle.memory.specs.Memory.{Place, Memory, wrapped, with_byte, put, put_all, byte_of, bytes_at, forgotten, forget_below, place_in, memory_of, stack_start, stack_place, with_stack, HasBytes}
+use Rattle.memory.specs.Memory.{Place, Memory, wrapped, with_byte, put, put_all, byte_of, bytes_at, forgotten, forget_below, place_in, memory_of, stack_start, with_stack, HasBytes}
 use Rattle.memory.specs.MemoryLaws.{ImageHasBytes, StackHasBytes, PutAllHasBytes, ForgetHasBytes, LoadsBytes}
 
 -- a place has such a byte

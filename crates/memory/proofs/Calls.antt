@@ -1,16 +1,14 @@
 -- The laws of system calls.
-use Rattle.std.proofs.Common.{◌≡◌, ℕ, zero, suc, ◌+◌, ◌<◌, ◌≤◌, ◌==◌, ◌&&◌, ◌||◌, Bool, true, false, cond, leb, min, List, [], ◌∷◌, length, map, take, drop, All, Option, Some, None, refl, sym, ◌∙◌, ap, subst, arith}
-use Rattle.std.proofs.lemmas.Bool.{and_parts}
+use Rattle.std.proofs.Common.{◌≡◌, ℕ, zero, suc, ◌+◌, ◌<◌, ◌≤◌, ◌==◌, ◌&&◌, ◌||◌, Bool, true, false, cond, leb, min, List, [], ◌∷◌, length, map, take, drop, All, Option, Some, None, refl, ◌∙◌, ap, arith}
 use Rattle.std.proofs.lemmas.List.Elements.{All-nil, All-cons, All-head, All-tail, All-take, All-drop}
 use Rattle.outside.specs.declared.answer.Answer.{Answer}
 use Rattle.outside.specs.declared.answer.Answer.TheVariants.{Take, Fail}
 use Rattle.outside.specs.Environment.{Environment, cap, next_answer, answers_after, IsAnswer, IsEnvironment}
-use Rattle.traces.specs.Trace.{OtherCall, Unspecified, turns}
-use Rattle.x86_values.specs.declared.byte.Byte.{Byte}
+use Rattle.traces.specs.Trace.{OtherCall, Unspecified}
 use Rattle.x86_values.specs.declared.byte.Byte.TheVariants.{Known}
 use Rattle.x86_values.specs.Words.{IsByte, known, known_byte, all_known}
-use Rattle.memory.specs.Memory.{Memory, wrapped, Stored, AccessKind, Load, Store, allows_all, bytes_at, SameIn}
-use Rattle.memory.specs.SystemCall.{Request, Called, Ends, Gives, error, EBADF, EFAULT, passes, Plan, Refused, Stops, Asks, read_plan, asks_known, write_plan, after_answer, read_by, write_by, reads, writes, read_call, write_call, exit_call, transfer, call_by, system_call}
+use Rattle.memory.specs.Memory.{Memory, Stored, Load, Store, bytes_at, SameIn}
+use Rattle.memory.specs.SystemCall.{Request, Called, Ends, error, EBADF, EFAULT, passes, Plan, Refused, Stops, Asks, read_plan, asks_known, write_plan, after_answer, read_by, write_by, reads, writes, read_call, write_call, exit_call, transfer, call_by, system_call}
 use Rattle.memory.specs.CallLaws.{SameBuffer, CallByBuffer, SameInIsBuffer, IsPlainCall, CallsArePlain, StoresBytes, CallIsKept, CallsKeepEnvironment, LeavesInput, CallsLeaveInput}
 use Rattle.memory.proofs.Memories.{allows_in_same, bytes_in_same}
 

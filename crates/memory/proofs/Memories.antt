@@ -1,8 +1,8 @@
 -- The laws of memory.
-use Rattle.std.proofs.Common.{◌≡◌, ◌≢◌, ℕ, zero, suc, ◌+◌, ◌-◌, ◌%◌, ◌^◌, ◌<◌, ◌≤◌, ◌==◌, ◌&&◌, Bool, true, false, cond, leb, ltb, List, [], ◌∷◌, length, slice_index_or, Option, Some, None, refl, sym, ◌∙◌, ap, subst, arith, inl, inr}
+use Rattle.std.proofs.Common.{◌≡◌, ◌≢◌, ℕ, zero, suc, ◌+◌, ◌^◌, ◌<◌, ◌==◌, ◌&&◌, Bool, true, false, cond, leb, ltb, List, [], ◌∷◌, length, slice_index_or, Option, Some, None, refl, sym, ◌∙◌, ap, arith}
 use Rattle.std.proofs.lemmas.Bool.{eq-eqb, ne_eqb, lt-ltb, le-ltb, ltb-true, and_parts, cond-true, cond-false}
 use Rattle.x86_values.specs.declared.byte.Byte.{Byte}
-use Rattle.x86_values.specs.declared.byte.Byte.TheVariants.{Known, Unspecified}
+use Rattle.x86_values.specs.declared.byte.Byte.TheVariants.{Unspecified}
 use Rattle.memory.specs.Memory.{Place, Memory, wrapped, with_byte, put, put_all, AccessKind, Load, Store, allows, allows_all, byte_of, bytes_at, forgotten, forget_below, stack_start, stack_place, with_stack, kind_of, SameIn}
 use Rattle.memory.specs.MemoryLaws.{PutAllThere, PutAllElsewhere, PutAllKeepsKinds, ForgetKeepsKinds, AllowsByKinds, StoredIsLoaded, ForgetBelow, ForgetAbove, ForgetOffStack, ForgetThenForget, PutAllByPlace, ForgetByPlace, StackByPlace, AllowsInSame, BytesInSame}
 

@@ -1,8 +1,8 @@
 -- The laws of system calls.
-use Rattle.std.specs.Prelude.{◌≡◌, ℕ, ◌<◌, true, false, min, Bool, List, [], All, Some}
+use Rattle.std.specs.Prelude.{◌≡◌, ℕ, true, false, min, Bool, List, All, Some}
 use Rattle.x86_values.specs.Words.{IsByte, known}
 use Rattle.outside.specs.Environment.{Environment, cap, IsEnvironment}
-use Rattle.traces.specs.Trace.{Label, End, Guard, Stopped, turns, input_left}
+use Rattle.traces.specs.Trace.{End, Guard, Stopped, turns, input_left}
 use Rattle.memory.specs.Memory.{Memory, Stored, Load, Store, bytes_at, SameIn}
 use Rattle.memory.specs.SystemCall.{Request, Called, Ends, Gives, passes, system_call}
 

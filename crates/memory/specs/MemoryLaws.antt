@@ -5,7 +5,7 @@ use Rattle.x86_values.specs.declared.byte.Byte.TheVariants.{Unspecified}
 use Rattle.x86_values.specs.Words.{IsByte}
 use Rattle.image.specs.declared.image.Image.{Image}
 use Rattle.image.specs.Addresses.{byte_at}
-use Rattle.memory.specs.Memory.{Memory, wrapped, with_byte, put, put_all, AccessKind, allows_all, bytes_at, forgotten, forget_below, memory_of, with_stack, kind_of, HasBytes, SameIn}
+use Rattle.memory.specs.Memory.{Memory, wrapped, with_byte, put_all, AccessKind, allows_all, bytes_at, forgotten, forget_below, memory_of, with_stack, kind_of, HasBytes, SameIn}
 
 -- bytes that are stored stand there, where places are mapped; a store may pass the end of the addresses
 abbrev pub PutAllThere : Type 0

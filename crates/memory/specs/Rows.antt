@@ -1,8 +1,7 @@
 -- Worked rows of memory and of calls.
-use Rattle.std.specs.Prelude.{◌≡◌, ℕ, ◌+◌, ◌==◌, ◌||◌, Bool, true, false, cond, leb, List, [], ◌∷◌, Option, Some, None}
-use Rattle.x86_values.specs.declared.byte.Byte.{Byte}
+use Rattle.std.specs.Prelude.{◌≡◌, ◌==◌, ◌||◌, true, false, cond, leb, [], ◌∷◌, Some, None}
 use Rattle.x86_values.specs.declared.byte.Byte.TheVariants.{Known, Unspecified}
-use Rattle.memory.specs.Memory.{Place, Memory, put_all, Load, Store, allows_all, bytes_at, forget_below}
+use Rattle.memory.specs.Memory.{Memory, put_all, Load, Store, allows_all, bytes_at, forget_below}
 use Rattle.memory.specs.SystemCall.{Asks, Refused, error, EFAULT, read_plan}
 
 -- everything is mapped: zeros that can be written, and from 2^31 on zeros that can't

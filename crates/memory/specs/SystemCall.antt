@@ -1,6 +1,6 @@
 -- The system call `int 0x80` (Linux for the i386): exit is 1, read 3, write 4. The order of the rules, which descriptors are
 -- valid, that the whole buffer is looked at, and the cap of 65,536 bytes are own.
-use Rattle.std.specs.Prelude.{ℕ, ◌+◌, ◌-◌, ◌==◌, ◌&&◌, ◌||◌, min, Bool, true, false, cond, leb, List, [], ◌∷◌, length, map, take, drop, Option, Some, None}
+use Rattle.std.specs.Prelude.{ℕ, ◌+◌, ◌-◌, ◌==◌, ◌&&◌, ◌||◌, min, Bool, cond, leb, List, [], ◌∷◌, length, map, take, drop, Option, Some, None}
 use Rattle.outside.specs.declared.answer.Answer.{Answer}
 use Rattle.outside.specs.declared.answer.Answer.TheVariants.{Take, Fail}
 use Rattle.outside.specs.Environment.{Environment, cap, next_answer, answers_after}

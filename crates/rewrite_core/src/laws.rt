@@ -2,6 +2,7 @@
 ghost use Rattle.rewrite_core.specs.Agreement.{LoopsNeverEnd, NewCodeAgrees, NewFileAgrees};
 ghost use Rattle.rewrite_core.specs.Layout.{NewCodeIsAll, NewCodeIsInPages, NewCodeIsThere, NewFileIsAccepted, RowIsWritten};
 
+use byte_lists::little_endian_laws;
 use elf_writer::writer_laws;
 use memory::{call_laws, memory_laws};
 use traces::{Family, invariant_laws, run_laws, simulation_laws};

@@ -1,8 +1,8 @@
 -- The computed front is the one that spells, and its values at a few opcodes.
 use Rattle.std.proofs.Common.{◌≡◌, ◌≢◌, ℕ, zero, suc, ◌+◌, ◌-◌, ◌*◌, ◌/◌, ◌%◌, ◌<◌, ◌≤◌, true, false, ltb, eqb, List, [], ◌∷◌, ◌++◌, length, take, drop, Option, Some, None, refl, sym, ap, subst, ◌∙◌, arith, length-append, length-take}
 use Rattle.std.proofs.lemmas.Bool.Decides.{nat_tests}
-use Rattle.std.proofs.lemmas.List.{take-append-drop, take_at, take-take, take_all, append-nil}
-use Rattle.std.proofs.lemmas.List.Elements.{recursion_from_All, All-from_recursion}
+use Rattle.std.proofs.lemmas.List.{take-append-drop, take_at, take-take}
+use Rattle.std.proofs.lemmas.List.Elements.{recursion_from_All}
 use Rattle.x86_types.specs.declared.operand.Reg.{Reg}
 use Rattle.x86_types.specs.declared.operand.Reg.TheVariants as reg
 use Rattle.x86_types.specs.declared.operand.Rm.TheVariants as rm
@@ -21,14 +21,13 @@ use Rattle.x86_grammar.specs.Front.{found_front, front}
 use Rattle.x86_grammar.specs.FrontLaws.{AreAllBytes, FrontIsSpelling, FrontEquations, FrontsAreWorked}
 use Rattle.x86_grammar.specs.Fronts.{FrontSpells, NoFrontSpells}
 use Rattle.x86_grammar.specs.Meaning.{build}
-use Rattle.byte_lists.specs.LittleEndian.{le, from_le, AreBytes}
+use Rattle.byte_lists.specs.LittleEndian.{from_le, AreBytes}
 use Rattle.x86_grammar.specs.Operand.{rm_of}
 use Rattle.x86_grammar.specs.Parts.{signed}
 use Rattle.x86_grammar.specs.Reading.{numbers, found, sib_at, after_m, m_at, plain_at, after_opcode, after_escape, at_opcode, read_from, read}
 use Rattle.x86_grammar.specs.Spells.{operand_size_in, no_counts, Spells}
 use Rattle.x86_grammar.specs.Table.{entry_of}
 use Rattle.x86_grammar.proofs.Bytes.{spells_some}
-use Rattle.x86_grammar.proofs.LittleEndian.{length-le, from_le-le, from_le-below, le-from_le}
 use Rattle.x86_grammar.proofs.Sound.{read_gave}
 use Rattle.x86_grammar.proofs.Whole.{spells_whole}
 

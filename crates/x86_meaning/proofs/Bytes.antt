@@ -1,15 +1,14 @@
 -- Known bytes of registers and of memory stay below 256.
-use Rattle.std.proofs.Common.{◌≡◌, ℕ, zero, suc, ◌+◌, ◌%◌, ◌<◌, ◌==◌, Bool, true, false, cond, List, [], ◌∷◌, ◌++◌, length, take, drop, All, Option, Some, None, refl, arith}
+use Rattle.std.proofs.Common.{◌≡◌, ℕ, ◌+◌, ◌==◌, Bool, true, false, cond, List, [], ◌∷◌, ◌++◌, length, take, drop, All, Option, Some, None}
 use Rattle.std.proofs.lemmas.List.Elements.{All-nil, All-cons, All-head, All-tail, All-take, All-drop, All-append}
 use Rattle.x86_values.specs.declared.byte.Byte.{Byte}
-use Rattle.x86_values.specs.declared.byte.Byte.TheVariants.{Known}
 use Rattle.x86_values.specs.declared.word.Word.{Word}
-use Rattle.x86_values.specs.Words.{IsByte, IsWord, word_of, word_list, padded}
+use Rattle.x86_values.specs.Words.{IsByte, IsWord, word_of, word_list}
 use Rattle.x86_values.specs.WordLaws.{WordLaws}
 use Rattle.outside.specs.Environment.{Environment, IsEnvironment}
 use Rattle.traces.specs.Trace.{Label, Go}
 use Rattle.image.specs.declared.image.Image.{Image}
-use Rattle.memory.specs.Memory.{Memory, wrapped, Stored, put_all, store_all, bytes_at, memory_of, HasBytes}
+use Rattle.memory.specs.Memory.{Memory, wrapped, Stored, put_all, store_all, memory_of, HasBytes}
 use Rattle.memory.specs.MemoryLaws.{MemoryLaws}
 use Rattle.memory.specs.CallLaws.{CallLaws, StoresBytes, CallIsKept}
 use Rattle.memory.specs.SystemCall.{Called, Ends, Gives, system_call}
@@ -21,7 +20,7 @@ use Rattle.x86_meaning.specs.Registers.{Registers, Processor, Naming, with_regis
 use Rattle.x86_meaning.specs.Operands.{Location, InRegister, InMemory, Immediate, location_of, source_of, bytes_in, value_in}
 use Rattle.x86_meaning.specs.Effect.{Effect, written_to, move_effect, effect}
 use Rattle.x86_meaning.specs.Step.{State, settled, at_address, request_of, with_result, after_call, finish, performed, next}
-use Rattle.x86_meaning.specs.Run.{first_registers, start_over, start_of, IsStart}
+use Rattle.x86_meaning.specs.Run.{start_over, start_of, IsStart}
 use Rattle.x86_meaning.specs.StepLaws.{IsOfBytes, IsImageOfBytes}
 use Rattle.x86_meaning.proofs.Cases.{made, settled_holds, finish_holds, step_holds, next_holds}
 use Rattle.x86_meaning.proofs.States.{Reaches, reached}

@@ -2,13 +2,13 @@
 use Rattle.std.proofs.Common.{◌≡◌, ℕ, ◌+◌, Bool, true, false, List, [], Option, Some, None, refl, subst}
 use Rattle.x86_values.specs.Words.{known}
 use Rattle.traces.specs.Trace.{Label, End, MemoryFault, Outside, Unspecified, Move, Stand, Go, Halt}
-use Rattle.memory.specs.Memory.{wrapped, Load, Store, forget_below}
-use Rattle.memory.specs.SystemCall.{Called, Ends, Gives, system_call}
+use Rattle.memory.specs.Memory.{wrapped, forget_below}
+use Rattle.memory.specs.SystemCall.{system_call}
 use Rattle.x86_types.specs.declared.instr.Instr.{Instr}
 use Rattle.x86_code.specs.Code.{Code}
 use Rattle.x86_meaning.specs.Registers.{machine_naming}
-use Rattle.x86_meaning.specs.Effect.{Way, Falls, JumpsBy, JumpsTo, Repeats, Calls, Halts, Effect, accesses, effect}
-use Rattle.x86_meaning.specs.Step.{State, all_allowed, settled_by, settled, at_address, request_of, after_call, finish, performed, by_stores, by_way, by_loads, step, step_at, next}
+use Rattle.x86_meaning.specs.Effect.{Way, Falls, JumpsBy, JumpsTo, Repeats, Calls, Halts, Effect, effect}
+use Rattle.x86_meaning.specs.Step.{State, settled_by, settled, at_address, request_of, after_call, finish, performed, by_stores, by_way, by_loads, step, step_at, next}
 
 -- the effect of the instruction at a state, and the state after it
 abbrev pub made : Instr → ℕ → State → Effect

@@ -1,11 +1,10 @@
 -- What each move of the machine shows, and how it ends.
-use Rattle.std.proofs.Common.{◌≡◌, ℕ, ◌+◌, ◌≢◌, Bool, true, false, List, [], Option, Some, None, refl, subst}
-use Rattle.x86_values.specs.Words.{known}
+use Rattle.std.proofs.Common.{◌≡◌, ℕ, ◌+◌, ◌≢◌, true, false, List, [], Option, Some, None, refl, subst}
 use Rattle.traces.specs.Trace.{Label, End, Guard, Stopped, GuardKind, Move, Stand, Go, Halt, Grows, turns, input_left}
 use Rattle.traces.specs.Steps.{Reaches}
 use Rattle.traces.specs.Weight.{Paced, Ticks}
 use Rattle.traces.specs.Plain.{NeverStops}
-use Rattle.traces.specs.Machines.{marked, turned}
+use Rattle.traces.specs.Machines.{marked}
 use Rattle.traces.specs.Moves.{Unturned, EndsIn, InputMove}
 use Rattle.traces.specs.RunLaws.{RunLaws}
 use Rattle.traces.specs.MoveLaws.{MoveLaws}

@@ -1,10 +1,9 @@
 -- What holds of the states of a run: esp is known, no byte of the stack below it, and nothing is mapped or permitted by a step.
-use Rattle.std.proofs.Common.{◌≡◌, ℕ, ◌+◌, ◌*◌, ◌/◌, ◌%◌, ◌^◌, ◌<◌, Bool, true, false, cond, ltb, List, [], ◌∷◌, Option, Some, None, refl, sym, ◌∙◌, ap, subst, arith}
+use Rattle.std.proofs.Common.{◌≡◌, ℕ, ◌+◌, ◌<◌, Bool, true, false, cond, ltb, List, [], ◌∷◌, Option, Some, None, refl, sym, ◌∙◌, ap, subst, arith}
 use Rattle.std.specs.Option.{option_map}
 use Rattle.std.proofs.lemmas.Bool.{lt-ltb}
 use Rattle.x86_values.specs.declared.byte.Byte.{Byte}
 use Rattle.x86_values.specs.declared.byte.Byte.TheVariants.{Unspecified}
-use Rattle.x86_values.specs.Words.{known}
 use Rattle.x86_values.specs.WordLaws.{WordLaws}
 use Rattle.outside.specs.Environment.{Environment}
 use Rattle.traces.specs.Trace.{Label, Move, Stand, Go, Halt}
@@ -16,8 +15,8 @@ use Rattle.memory.specs.MemoryLaws.{MemoryLaws}
 use Rattle.memory.specs.SystemCall.{Called, Ends, Gives, system_call}
 use Rattle.x86_types.specs.declared.instr.Instr.{Instr}
 use Rattle.x86_code.specs.Code.{Code}
-use Rattle.x86_meaning.specs.Step.{State, settled, at_address, request_of, after_call, finish, performed, step, next}
-use Rattle.x86_meaning.specs.Run.{first_registers, start_over, start_of, IsStart}
+use Rattle.x86_meaning.specs.Step.{State, settled, at_address, request_of, after_call, finish, performed, next}
+use Rattle.x86_meaning.specs.Run.{start_over, start_of, IsStart}
 use Rattle.x86_meaning.specs.StepLaws.{IsForgotten}
 use Rattle.x86_meaning.proofs.Cases.{made, settled_holds, finish_holds, step_holds, next_holds}
 

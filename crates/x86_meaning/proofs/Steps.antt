@@ -1,10 +1,10 @@
 -- The equations of steps, and the stores of effects.
-use Rattle.std.proofs.Common.{◌≡◌, ◌≢◌, ℕ, ◌+◌, ◌==◌, List, [], ◌∷◌, ◌++◌, map, length, take, Option, Some, None, refl, ap}
+use Rattle.std.proofs.Common.{◌≡◌, ◌≢◌, ℕ, ◌+◌, ◌==◌, [], ◌∷◌, ◌++◌, map, length, take, Option, Some, None, refl, ap}
 use Rattle.std.proofs.lemmas.Bool.{eq-eqb, ne_eqb, cond-true, cond-false}
 use Rattle.x86_values.specs.declared.word.Word.{Word}
-use Rattle.x86_values.specs.Words.{word_of, word_list, padded}
+use Rattle.x86_values.specs.Words.{word_list}
 use Rattle.traces.specs.Trace.{Stand, Outside}
-use Rattle.memory.specs.Memory.{Memory, wrapped, Load, Store}
+use Rattle.memory.specs.Memory.{Memory, Load, Store}
 use Rattle.memory.specs.SystemCall.{system_call}
 use Rattle.x86_types.specs.declared.operand.Reg.{Reg}
 use Rattle.x86_types.specs.declared.operand.Rm.TheVariants as rm

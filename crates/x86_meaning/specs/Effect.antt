@@ -1,7 +1,7 @@
 -- The accesses and the effect of each instruction, over places that its fields name. The effect judges no access: whoever makes a
 -- step does that before. Built so far: MOV, JMP rel and INT 80h (Intel SDM volume 2, "MOV", "JMP", "INT n"). Each instruction has
 -- its line, so that one that is left out is seen.
-use Rattle.std.specs.Prelude.{ℕ, List, [], ◌∷◌, ◌++◌, take, Option, Some, None}
+use Rattle.std.specs.Prelude.{ℕ, List, [], ◌∷◌, ◌++◌, take, Option, Some}
 use Rattle.x86_values.specs.declared.word.Word.{Word}
 use Rattle.x86_values.specs.Words.{word_list}
 use Rattle.traces.specs.Trace.{End, Unspecified, Outside}

@@ -2,7 +2,7 @@
 -- writes, or gives as its status.
 use Rattle.std.specs.Prelude.{ℕ, List, [], ◌∷◌, ◌++◌, Some, None}
 use Rattle.traces.specs.Trace.{Write, Exited, MemoryFault, Outside, Unspecified}
-use Rattle.x86_meaning.specs.Rows.{Row, AreSeen, plain_row, mov_eax, mov_ecx, mov_ebx, int80, call}
+use Rattle.x86_meaning.specs.Rows.{Row, AreSeen, plain_row, mov_eax, mov_ecx, int80, call}
 
 -- A3: mov [0x0804A000], eax, and then a write of five bytes from there
 abbrev pub shows_eax : List ℕ

@@ -4,7 +4,7 @@ use Rattle.std.specs.Option.{option_map}
 use Rattle.x86_values.specs.declared.byte.Byte.{Byte}
 use Rattle.x86_values.specs.declared.word.Word.{Word}
 use Rattle.x86_values.specs.Words.{word_of, known, word_list, padded}
-use Rattle.memory.specs.Memory.{Memory, AccessKind, Load, Store, bytes_at}
+use Rattle.memory.specs.Memory.{Memory, AccessKind, bytes_at}
 use Rattle.x86_types.specs.declared.operand.Reg.{Reg}
 use Rattle.x86_types.specs.declared.operand.Address.{Address}
 use Rattle.x86_types.specs.declared.operand.Rm.{Rm}

@@ -2,7 +2,7 @@
 use Rattle.std.specs.Prelude.{ℕ, ◌+◌, ◌&&◌, Bool, true, false, List, [], ◌∷◌, Option, Some, None}
 use Rattle.x86_values.specs.Words.{word_of, known}
 use Rattle.outside.specs.Environment.{Environment}
-use Rattle.traces.specs.Trace.{Label, End, MemoryFault, Outside, Unspecified, Move, Stand, Go, Halt}
+use Rattle.traces.specs.Trace.{Label, MemoryFault, Outside, Unspecified, Move, Stand, Go, Halt}
 use Rattle.memory.specs.Memory.{Memory, wrapped, AccessKind, Load, Store, allows_all, store_all, forget_below}
 use Rattle.memory.specs.SystemCall.{Request, Called, Ends, Gives, system_call}
 use Rattle.x86_types.specs.declared.instr.Instr.{Instr}

@@ -1,13 +1,13 @@
 -- The laws of a step, and of the states before and after it.
-use Rattle.std.specs.Prelude.{◌≡◌, ◌≢◌, ℕ, ◌+◌, ◌<◌, true, List, [], ◌∷◌, map, length, Option, Some, None}
+use Rattle.std.specs.Prelude.{◌≡◌, ◌≢◌, ℕ, ◌+◌, ◌<◌, true, List, [], ◌∷◌, map, length, Some, None}
 use Rattle.x86_values.specs.declared.byte.Byte.TheVariants.{Unspecified}
 use Rattle.x86_values.specs.declared.word.Word.{Word}
 use Rattle.x86_values.specs.Words.{word_of, known, IsWord}
 use Rattle.outside.specs.Environment.{Environment, IsEnvironment}
-use Rattle.traces.specs.Trace.{Label, Move, Stand, Go, Outside}
+use Rattle.traces.specs.Trace.{Label, Stand, Go, Outside}
 use Rattle.image.specs.declared.image.Image.{Image}
 use Rattle.image.specs.Addresses.{byte_at}
-use Rattle.memory.specs.Memory.{Place, Memory, wrapped, Stored, AccessKind, Load, Store, HasBytes, kind_of}
+use Rattle.memory.specs.Memory.{Place, Memory, Stored, AccessKind, Load, Store, HasBytes, kind_of}
 use Rattle.memory.specs.SystemCall.{system_call}
 use Rattle.x86_types.specs.declared.operand.Reg.{Reg}
 use Rattle.x86_types.specs.declared.operand.Rm.TheVariants as rm
@@ -19,8 +19,8 @@ use Rattle.x86_types.specs.Numbers.{number_of_reg}
 use Rattle.x86_code.specs.Code.{Code}
 use Rattle.x86_meaning.specs.Registers.{Registers, Processor, Naming, with_register}
 use Rattle.x86_meaning.specs.Operands.{Access}
-use Rattle.x86_meaning.specs.Effect.{Way, Halts, Effect, accesses, effect}
-use Rattle.x86_meaning.specs.Step.{State, at_address, settled, request_of, after_call, step, step_at, next}
+use Rattle.x86_meaning.specs.Effect.{accesses, effect}
+use Rattle.x86_meaning.specs.Step.{State, at_address, settled, request_of, after_call, step, next}
 use Rattle.x86_meaning.specs.Run.{start_of, IsStart}
 
 -- ---- what holds of each state of a run

@@ -1,4 +1,4 @@
-use Rattle.std.proofs.Common.{◌≡◌, ◌⊎◌, ℕ, List, Option, Some, None, refl, sym, ◌∙◌, inl, inr}
+use Rattle.std.proofs.Common.{◌≡◌, ◌⊎◌, ℕ, Option, Some, None, refl, sym, inl, inr}
 use Rattle.x86_types.specs.declared.instr.Instr.{Instr}
 use Rattle.x86_decode.specs.declared.decoding.Decoded.{Decoded}
 use Rattle.x86_decode.specs.declared.decoding.Decoded.TheVariants.{One, Short, Outside}
