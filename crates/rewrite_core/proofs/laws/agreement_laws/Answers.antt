@@ -13,7 +13,7 @@ laws c = record {
   programs = c.program_laws.ensures;
   spelling = c.front_laws.ensures.spelling;
   equations = c.front_laws.ensures.equations;
-  numbers = c.little_endian_laws.ensures;
+  numbers = c.little_endian_laws.ensures.laws;
   fields = c.spelled_fields_fit.ensures.fields;
 }
 
