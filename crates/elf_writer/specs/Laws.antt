@@ -1,6 +1,6 @@
 -- What is written is read again, and what is read can be written.
 use Rattle.std.specs.Prelude.{◌≡◌, ℕ, ◌+◌, ◌<◌, List, [], ◌∷◌, ◌++◌, length, Ok}
-use Rattle.std.specs.List.{AllByRecursion}
+use Rattle.byte_lists.specs.LittleEndian.{AreBytes}
 use Rattle.image.specs.declared.image.Segment.{Segment}
 use Rattle.image.specs.declared.image.Image.{Image}
 use Rattle.elf_image.specs.declared.refusal.Room.TheVariants.{Any}
@@ -39,4 +39,4 @@ pub record DataStarts : Type 0 where
 
 -- the image of every file of bytes that the wide room accepts can be written
 abbrev pub ReadImagesCanBeWritten : Type 0
-ReadImagesCanBeWritten = (file : List ℕ) (image : Image) → image_of file Any ≡ Ok image → AllByRecursion (λ b. b < 256) file → CanBeWritten image.segments image.entry
+ReadImagesCanBeWritten = (file : List ℕ) (image : Image) → image_of file Any ≡ Ok image → AreBytes file → CanBeWritten image.segments image.entry
