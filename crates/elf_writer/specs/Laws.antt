@@ -1,12 +1,11 @@
 -- What is written is read again, and what is read can be written.
 use Rattle.std.specs.Prelude.{◌≡◌, ℕ, ◌+◌, ◌<◌, List, [], ◌∷◌, ◌++◌, length, Ok}
-use Rattle.byte_lists.specs.LittleEndian.{AreBytes}
 use Rattle.image.specs.declared.image.Segment.{Segment}
 use Rattle.image.specs.declared.image.Image.{Image}
 use Rattle.elf_image.specs.declared.refusal.Room.TheVariants.{Any}
 use Rattle.elf_image.specs.Image.{image_of}
 use Rattle.elf_image.specs.Plain.{room_segment}
-use Rattle.byte_lists.specs.LittleEndian.{zeros}
+use Rattle.byte_lists.specs.LittleEndian.{zeros, AreBytes}
 use Rattle.elf_image.specs.Rows.{file_header, segment_header}
 use Rattle.elf_writer.specs.Wanted.{CanBeWritten, image_with}
 use Rattle.elf_writer.specs.Written.{data_of, table_end, data_start, written}
