@@ -246,40 +246,40 @@ bit false = 0
 bit true = 1
 
 -- which prefixes a row knows: one 66 that makes width Two, any number of 66, any number of 2E, one 3E, and F3
-abbrev pub known : Bool → Bool → Bool → Bool → F3 → Prefixes
-known size a66 a2e o3e f = record { operand_size = size; any_66 = a66; any_2e = a2e; one_3e = o3e; f3 = f }
+abbrev pub known_prefixes : Bool → Bool → Bool → Bool → F3 → Prefixes
+known_prefixes size a66 a2e o3e f = record { operand_size = size; any_66 = a66; any_2e = a2e; one_3e = o3e; f3 = f }
 
 -- none
 abbrev pub no_prefix : Prefixes
-no_prefix = known false false false false Never
+no_prefix = known_prefixes false false false false Never
 
 -- one 66, where the w bit is 1
 abbrev pub sized : Bool → Prefixes
-sized w = known w false false false Never
+sized w = known_prefixes w false false false Never
 
 -- one 66 and any number of 2E
 abbrev pub sized_2e : Prefixes
-sized_2e = known true false true false Never
+sized_2e = known_prefixes true false true false Never
 
 -- any number of 66
 abbrev pub any_66 : Prefixes
-any_66 = known false true false false Never
+any_66 = known_prefixes false true false false Never
 
 -- any number of 66 and of 2E
 abbrev pub any_66_2e : Prefixes
-any_66_2e = known false true true false Never
+any_66_2e = known_prefixes false true true false Never
 
 -- one 3E
 abbrev pub one_3e : Prefixes
-one_3e = known false false false true Never
+one_3e = known_prefixes false false false true Never
 
 -- F3, and one 66 where the w bit is 1
 abbrev pub may_f3 : Bool → Prefixes
-may_f3 w = known w false false false May
+may_f3 w = known_prefixes w false false false May
 
 -- F3, without which the row isn't there
 abbrev pub must_f3 : Prefixes
-must_f3 = known false false false false Must
+must_f3 = known_prefixes false false false false Must
 
 -- 90 is no exchange
 abbrev pub not_eax : Reg → RegField
@@ -367,8 +367,8 @@ fn cond_bits(cond: Cond) -> u16
     cond_number(cond) as u16
 }
 
-fn known(operand_size: bool, any_66: bool, any_2e: bool, one_3e: bool, f3: F3) -> Prefixes
-    ensures { result ≡ spec.known operand_size any_66 any_2e one_3e f3 }
+fn known_prefixes(operand_size: bool, any_66: bool, any_2e: bool, one_3e: bool, f3: F3) -> Prefixes
+    ensures { result ≡ spec.known_prefixes operand_size any_66 any_2e one_3e f3 }
 {
     Prefixes {
         operand_size,
@@ -382,49 +382,49 @@ fn known(operand_size: bool, any_66: bool, any_2e: bool, one_3e: bool, f3: F3) -
 fn no_prefix() -> Prefixes
     ensures { result ≡ spec.no_prefix }
 {
-    known(false, false, false, false, F3::Never)
+    known_prefixes(false, false, false, false, F3::Never)
 }
 
 fn sized(w: bool) -> Prefixes
     ensures { result ≡ spec.sized w }
 {
-    known(w, false, false, false, F3::Never)
+    known_prefixes(w, false, false, false, F3::Never)
 }
 
 fn sized_2e() -> Prefixes
     ensures { result ≡ spec.sized_2e }
 {
-    known(true, false, true, false, F3::Never)
+    known_prefixes(true, false, true, false, F3::Never)
 }
 
 fn any_66() -> Prefixes
     ensures { result ≡ spec.any_66 }
 {
-    known(false, true, false, false, F3::Never)
+    known_prefixes(false, true, false, false, F3::Never)
 }
 
 fn any_66_2e() -> Prefixes
     ensures { result ≡ spec.any_66_2e }
 {
-    known(false, true, true, false, F3::Never)
+    known_prefixes(false, true, true, false, F3::Never)
 }
 
 fn one_3e() -> Prefixes
     ensures { result ≡ spec.one_3e }
 {
-    known(false, false, false, true, F3::Never)
+    known_prefixes(false, false, false, true, F3::Never)
 }
 
 fn may_f3(w: bool) -> Prefixes
     ensures { result ≡ spec.may_f3 w }
 {
-    known(w, false, false, false, F3::May)
+    known_prefixes(w, false, false, false, F3::May)
 }
 
 fn must_f3() -> Prefixes
     ensures { result ≡ spec.must_f3 }
 {
-    known(false, false, false, false, F3::Must)
+    known_prefixes(false, false, false, false, F3::Must)
 }
 
 fn not_eax(reg: Reg) -> RegField
