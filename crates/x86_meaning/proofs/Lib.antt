@@ -1,3 +1,9 @@
+pub mod TransferCases
+pub mod Fitting
+pub mod SameTransfers
+pub mod ComputedLess
+pub mod EffectLess
+pub mod StepLess
 pub mod Steps
 pub mod Cases
 pub mod States

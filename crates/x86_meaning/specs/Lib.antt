@@ -1,9 +1,12 @@
 pub mod Registers
 pub mod Operands
+pub mod Transfers
+pub mod Computing
 pub mod Effect
 pub mod Step
 pub mod Run
 pub mod Agreement
+pub mod LessSpecified
 pub mod StepLaws
 pub mod RunLaws
 pub mod Rows

@@ -1,12 +1,21 @@
-//! Bytes and flags that are known or unspecified, and words of four bytes.
+//! Bytes and flags that are known or unspecified, words of four bytes, and what the operations of the processor make of them.
 #![tactic(auto)]
 
+mod answered;
+mod bitwise;
 mod byte;
+mod divided;
 mod laws;
+mod product;
 #[cfg(test)]
 mod tests;
 mod word;
 
+pub use answered::Answered;
+pub use bitwise::Bit;
 pub use byte::Byte;
-pub use laws::word_laws;
+pub use divided::Divided;
+pub use laws::{less_specified_laws, word_laws};
+pub use product::Product;
 pub use word::{Flags, Word, known, word_of};
+pub use x86_types::ShiftOp as Shifting;
