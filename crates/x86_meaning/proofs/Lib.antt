@@ -11,3 +11,4 @@ pub mod Bytes
 pub mod Moves
 pub mod Rows
 pub mod AluRows
+pub mod LogicRows

@@ -14,3 +14,4 @@ pub mod CallRows
 pub mod MoveRows
 pub mod StepRows
 pub mod AluRows
+pub mod LogicRows
