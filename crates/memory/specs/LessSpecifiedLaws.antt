@@ -7,7 +7,7 @@ use Rattle.memory.specs.Memory.{Memory, Stored, AccessKind, HasBytes, put_all, s
 use Rattle.memory.specs.SystemCall.{Request, system_call}
 use Rattle.memory.specs.LessSpecified.{MemoryLessSpecified, StoresLessSpecified, RequestLessSpecified, CalledLessSpecified}
 
-pub record LessSpecifiedLaws : Type 0 where
+pub record LessSpecifiedMemoryLaws : Type 0 where
   -- a memory of bytes is less specified than itself, and no other is; and it goes on from one to the next
   pub itself : (m : Memory) → HasBytes m → MemoryLessSpecified m m
   pub of_bytes : (m n : Memory) → MemoryLessSpecified m n → HasBytes m

@@ -1,6 +1,6 @@
 // The laws of the definitions, and worked rows. Each function's clauses are records of them.
 ghost use Rattle.memory.specs.CallLaws.{CallLaws};
-ghost use Rattle.memory.specs.LessSpecifiedLaws.{LessSpecifiedLaws};
+ghost use Rattle.memory.specs.LessSpecifiedLaws.{LessSpecifiedMemoryLaws};
 ghost use Rattle.memory.specs.MemoryLaws.{MemoryLaws};
 ghost use Rattle.memory.specs.Rows.{
   ApartRows,
@@ -33,7 +33,7 @@ pub fn call_laws()
 /// Its clause is the laws of memories and calls that are less specified than others: accesses are judged alike, loads, stores
 /// and forgetting keep the relation, and a call that goes on on the left comes to the same on the right.
 pub fn less_specified_memory_laws()
-    ensures { LessSpecifiedLaws }
+    ensures { LessSpecifiedMemoryLaws }
 {
     less_specified_laws();
 }

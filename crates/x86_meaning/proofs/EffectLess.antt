@@ -7,7 +7,7 @@ use Rattle.x86_values.specs.Words.{word_of, word_list, padded}
 use Rattle.x86_values.specs.LessSpecified.{ByteLessSpecified, WordLessSpecified, BytesLessSpecified}
 use Rattle.memory.specs.Memory.{Memory, Stored}
 use Rattle.memory.specs.LessSpecified.{MemoryLessSpecified, StoresLessSpecified}
-use Rattle.memory.specs.LessSpecifiedLaws as memory
+use Rattle.memory.specs.LessSpecifiedLaws.{LessSpecifiedMemoryLaws}
 use Rattle.x86_types.specs.declared.instr.Instr.{Instr}
 use Rattle.x86_meaning.specs.declared.stop.Stop.TheVariants.{MemoryFault, DivideFault, Unspecified}
 use Rattle.x86_meaning.specs.Registers.{Registers, Processor, Naming, with_bytes}
@@ -71,7 +71,7 @@ stores_joined [] ys us vs h k = rw h k
 stores_joined (x ∷ xs) [] us vs h k = absurd h
 stores_joined (x ∷ xs) (y ∷ ys) us vs h k = (h.0, h.1, stores_joined xs ys us vs h.2 k)
 
-module _ (laws : ValueLaws) (memories : memory.LessSpecifiedLaws) where
+module _ (laws : ValueLaws) (memories : LessSpecifiedMemoryLaws) where
   number_less : (a b : Option ℕ) → SameWhere a b → WordLessSpecified (word_if a) (word_if b)
   number_less None b h = record { b0 = tt; b1 = tt; b2 = tt; b3 = tt }
   number_less (Some n) b h = rw h (laws.less.itself (word_of n) (laws.words.word_of_bytes n))

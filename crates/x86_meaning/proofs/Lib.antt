@@ -4,6 +4,7 @@ pub mod SameTransfers
 pub mod ComputedLess
 pub mod EffectLess
 pub mod StepLess
+pub mod Accessing
 pub mod Steps
 pub mod Cases
 pub mod States

@@ -12,7 +12,7 @@ use Rattle.traces.specs.Trace as trace
 use Rattle.memory.specs.Memory.{Memory, Stored, AccessKind, Load, Store, wrapped}
 use Rattle.memory.specs.LessSpecified.{MemoryLessSpecified, StoresLessSpecified, EndLessSpecified, CalledLessSpecified}
 use Rattle.memory.specs.CallLaws.{CallLaws, StoresBytes, CallIsKept}
-use Rattle.memory.specs.LessSpecifiedLaws as memory
+use Rattle.memory.specs.LessSpecifiedLaws.{LessSpecifiedMemoryLaws}
 use Rattle.memory.specs.SystemCall.{Called, Ends, Gives, system_call}
 use Rattle.x86_types.specs.declared.instr.Instr.{Instr}
 use Rattle.x86_code.specs.Code.{Code}
@@ -53,7 +53,7 @@ same_end (OtherCall n) m h = rw h refl
 same_end (Guard k a) m h = rw h refl
 same_end (Stopped a) m h = rw h refl
 
-module _ (laws : ValueLaws) (memories : memory.LessSpecifiedLaws) where
+module _ (laws : ValueLaws) (memories : LessSpecifiedMemoryLaws) where
   -- ---- the judging
   access_judged : (kind other : AccessKind) (m n : Memory) (at size : ℕ) → MemoryLessSpecified m n → access_allowed kind other m at size ≡ access_allowed kind other n at size
   access_judged Load Load m n at size h = memories.allows Load m n at size h

@@ -7,6 +7,7 @@ pub mod Step
 pub mod Run
 pub mod Agreement
 pub mod LessSpecified
+pub mod AccessLaws
 pub mod StepLaws
 pub mod RunLaws
 pub mod Rows

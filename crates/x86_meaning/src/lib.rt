@@ -7,6 +7,6 @@ mod state;
 mod stop;
 
 pub use alu_rows::{worked_bits, worked_sums};
-pub use laws::{Meaning, program_laws, step_laws, worked_calls, worked_moves};
+pub use laws::{Meaning, access_laws, program_laws, step_laws, worked_calls, worked_moves};
 pub use state::Cpu;
 pub use stop::Stop;
