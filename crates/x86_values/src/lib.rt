@@ -7,6 +7,8 @@ mod byte;
 mod divided;
 mod laws;
 mod product;
+mod result;
+mod size;
 #[cfg(test)]
 mod tests;
 mod word;
@@ -17,5 +19,6 @@ pub use byte::Byte;
 pub use divided::Divided;
 pub use laws::{less_specified_laws, word_laws};
 pub use product::Product;
+pub use size::{cut, number};
 pub use word::{Flags, Word, known, word_of};
 pub use x86_types::ShiftOp as Shifting;
