@@ -2,23 +2,29 @@
 #![tactic(auto)]
 
 mod answered;
-mod bitwise;
 mod byte;
+mod conditions;
 mod divided;
+mod extension;
 mod laws;
+mod logic;
 mod product;
 mod result;
 mod size;
+mod sum;
 #[cfg(test)]
 mod tests;
 mod word;
 
 pub use answered::Answered;
-pub use bitwise::Bit;
 pub use byte::Byte;
+pub use conditions::condition;
 pub use divided::Divided;
+pub use extension::{bytes_swapped, sign_extended, sign_word};
 pub use laws::{less_specified_laws, word_laws};
+pub use logic::{Bit, bitwise};
 pub use product::Product;
 pub use size::{cut, number};
+pub use sum::{add, sub};
 pub use word::{Flags, Word, known, word_of};
 pub use x86_types::ShiftOp as Shifting;
