@@ -9,7 +9,7 @@ use Rattle.x86_values.specs.Sizes.{IsSize, cut, no_word, number, full}
 use Rattle.x86_values.specs.LessSpecified.{ByteLessSpecified, WordLessSpecified}
 use Rattle.x86_values.specs.LessSpecifiedLaws.{LessSpecifiedLaws}
 
-byte_itself : (x : Byte) → IsByte x → ByteLessSpecified x x
+pub byte_itself : (x : Byte) → IsByte x → ByteLessSpecified x x
 byte_itself (Known a) h = (refl, h)
 byte_itself Unspecified h = tt
 

@@ -2,6 +2,7 @@
 ghost use Rattle.std.specs.Prelude.{◌≡◌};
 ghost use Rattle.std.specs.Option.{option_map};
 ghost use Rattle.std.specs.Prelude.{not};
+ghost use Rattle.x86_values.specs.ConditionLaws.{ConditionLaws};
 ghost use Rattle.x86_values.specs.Conditions as spec;
 ghost use Rattle.x86_values.specs.Results as results;
 
@@ -77,3 +78,9 @@ pub fn condition(cond: Cond, flags: Flags) -> Option<bool>
         Cond::G => negated(less_or_equal(flags)),
     }
 }
+
+/// Does nothing: its clause is that conditions are monotone in what is specified.
+#[tactic(auto, using(crate::proofs::ConditionsLess::condition_laws))]
+pub fn condition_laws()
+    ensures { ConditionLaws }
+{}

@@ -1,5 +1,6 @@
 // Extensions to more bytes, and bytes in the opposite order.
 ghost use Rattle.std.specs.Prelude.{◌≡◌, cond};
+ghost use Rattle.x86_values.specs.ExtensionLaws.{ExtensionLaws};
 ghost use Rattle.x86_values.specs.Extensions as spec;
 ghost use Rattle.x86_values.specs.Sizes.{IsSize};
 
@@ -78,3 +79,9 @@ pub fn bytes_swapped(word: Word) -> Word
         b3: word.b0,
     }
 }
+
+/// Does nothing: its clause is that extensions are monotone in what is specified.
+#[tactic(auto, using(crate::proofs::ExtensionsLess::extension_laws))]
+pub fn extension_laws()
+    ensures { ExtensionLaws }
+{}

@@ -1,5 +1,6 @@
 // The bitwise operations.
 ghost use Rattle.std.specs.Prelude.{◌≡◌};
+ghost use Rattle.x86_values.specs.LogicLaws.{LogicLaws};
 ghost use Rattle.x86_values.specs.Logic as spec;
 ghost use Rattle.x86_values.specs.Sizes.{IsSize};
 
@@ -94,3 +95,9 @@ pub fn bitwise(kind: Bit, size: u8, left: Word, right: Word) -> Answered
         flags: logic_flags(size, number(size, word)),
     }
 }
+
+/// Does nothing: its clause is that bitwise operations are monotone in what is specified.
+#[tactic(auto, using(crate::proofs::LogicLess::logic_laws))]
+pub fn logic_laws()
+    ensures { LogicLaws }
+{}

@@ -1,5 +1,6 @@
 // Sums and differences.
 ghost use Rattle.std.specs.Prelude.{◌≡◌};
+ghost use Rattle.x86_values.specs.SumLaws.{SumLaws};
 ghost use Rattle.x86_values.specs.Results as results;
 ghost use Rattle.x86_values.specs.Sizes.{IsSize};
 ghost use Rattle.x86_values.specs.Sums as spec;
@@ -104,3 +105,9 @@ pub fn sub(size: u8, left: Word, right: Word, carry: Option<bool>) -> Answered
         _ => no_result(size),
     }
 }
+
+/// Does nothing: its clause is that sums and differences are monotone in what is specified.
+#[tactic(auto, using(crate::proofs::SumsLess::sum_laws))]
+pub fn sum_laws()
+    ensures { SumLaws }
+{}
