@@ -1,5 +1,5 @@
 -- Conditions are monotone in what is specified.
-use Rattle.std.proofs.Common.{◌≡◌, Bool, not, Option, Some, None, refl, ap}
+use Rattle.std.proofs.Common.{Bool, not, Option, Some, None, refl}
 use Rattle.std.specs.Option.{option_map}
 use Rattle.x86_types.specs.declared.operation.Cond.{Cond}
 use Rattle.x86_types.specs.declared.operation.Cond.TheVariants as cond

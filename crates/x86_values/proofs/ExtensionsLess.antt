@@ -1,9 +1,8 @@
 -- Extensions are monotone in what is specified.
-use Rattle.std.proofs.Common.{◌≡◌, ℕ, ◌<◌, ◌==◌, Bool, true, false, cond, leb, refl, arith}
+use Rattle.std.proofs.Common.{ℕ, ◌<◌, ◌==◌, Bool, true, false, cond, leb, refl, arith}
 use Rattle.x86_values.specs.declared.byte.Byte.{Byte}
 use Rattle.x86_values.specs.declared.byte.Byte.TheVariants.{Known, Unspecified}
 use Rattle.x86_values.specs.declared.word.Word.{Word}
-use Rattle.x86_values.specs.Sizes.{cut}
 use Rattle.x86_values.specs.Extensions.{sign_byte, top_byte, sign_extended, sign_word, bytes_swapped}
 use Rattle.x86_values.specs.ExtensionLaws.{ExtensionLaws}
 use Rattle.x86_values.specs.LessSpecified.{ByteLessSpecified, WordLessSpecified}

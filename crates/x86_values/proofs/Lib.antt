@@ -6,3 +6,8 @@ pub mod SumsLess
 pub mod LogicLess
 pub mod ExtensionsLess
 pub mod ConditionsLess
+pub mod SizeRows
+pub mod SumRows
+pub mod LogicRows
+pub mod ExtensionRows
+pub mod ConditionRows

@@ -9,7 +9,7 @@ use Rattle.x86_values.specs.declared.word.Word.{Word}
 use Rattle.x86_values.specs.declared.logic.Bit.{Bit}
 use Rattle.x86_values.specs.declared.logic.Bit.TheVariants.{And, Or, Xor}
 use Rattle.x86_values.specs.Words.{IsByte}
-use Rattle.x86_values.specs.Sizes.{IsSize, cut, number}
+use Rattle.x86_values.specs.Sizes.{IsSize, number}
 use Rattle.x86_values.specs.Logic.{and_byte, or_byte, xor_byte, byte_by, word_by, logic_flags, bitwise}
 use Rattle.x86_values.specs.LogicLaws.{LogicLaws}
 use Rattle.x86_values.specs.LessSpecified.{ByteLessSpecified, WordLessSpecified, FlagsLessSpecified, AnsweredLessSpecified}

@@ -1,9 +1,7 @@
 -- Results that are less specified than others.
-use Rattle.std.proofs.Common.{◌≡◌, ℕ, ◌/◌, ◌%◌, ◌<◌, ◌≤◌, Bool, Option, Some, None, refl, ap, arith}
+use Rattle.std.proofs.Common.{◌≡◌, ℕ, ◌/◌, ◌%◌, ◌<◌, Bool, Option, Some, None, refl, ap, arith}
 use Rattle.x86_values.specs.declared.byte.Byte.TheVariants.{Known}
-use Rattle.x86_values.specs.declared.answered.Answered.{Answered}
-use Rattle.x86_values.specs.declared.word.Word.{Word}
-use Rattle.x86_values.specs.Words.{IsWord, word_of}
+use Rattle.x86_values.specs.Words.{word_of}
 use Rattle.x86_values.specs.Sizes.{IsSize, cut, no_word, full}
 use Rattle.x86_values.specs.Results.{no_flags, flags_of, result_of, no_result}
 use Rattle.x86_values.specs.LessSpecified.{ByteLessSpecified, WordLessSpecified, FlagLessSpecified, FlagsLessSpecified, AnsweredLessSpecified}

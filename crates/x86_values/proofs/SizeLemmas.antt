@@ -1,5 +1,5 @@
 -- The bounds of a size.
-use Rattle.std.proofs.Common.{◌≡◌, ℕ, ◌<◌, ◌≤◌, ◌^◌, arith}
+use Rattle.std.proofs.Common.{ℕ, ◌<◌, ◌≤◌, arith}
 use Rattle.x86_values.specs.Sizes.{IsSize, full}
 use Rattle.x86_values.proofs.LessSpecified.{of_sizes}
 

@@ -2,6 +2,7 @@
 ghost use Rattle.std.specs.Prelude.{◌≡◌};
 ghost use Rattle.std.specs.Option.{option_map};
 ghost use Rattle.std.specs.Prelude.{not};
+ghost use Rattle.x86_values.specs.ConditionRows.{OfOneFlag, OfOneUnspecified, OfThreeFlags, OfTwoFlags, OfTwoUnspecified};
 ghost use Rattle.x86_values.specs.ConditionLaws.{ConditionLaws};
 ghost use Rattle.x86_values.specs.Conditions as spec;
 ghost use Rattle.x86_values.specs.Results as results;
@@ -83,4 +84,14 @@ pub fn condition(cond: Cond, flags: Flags) -> Option<bool>
 #[tactic(auto, using(crate::proofs::ConditionsLess::condition_laws))]
 pub fn condition_laws()
     ensures { ConditionLaws }
+{}
+
+/// Does nothing: its clauses are worked rows of conditions.
+#[tactic(auto, using(crate::proofs::ConditionRows::of_one_flag, crate::proofs::ConditionRows::of_one_unspecified, crate::proofs::ConditionRows::of_two_flags, crate::proofs::ConditionRows::of_two_unspecified, crate::proofs::ConditionRows::of_three_flags))]
+pub fn worked_conditions()
+    ensures one_flag { OfOneFlag }
+    ensures one_unspecified { OfOneUnspecified }
+    ensures two_flags { OfTwoFlags }
+    ensures two_unspecified { OfTwoUnspecified }
+    ensures three_flags { OfThreeFlags }
 {}

@@ -1,5 +1,6 @@
 // Extensions to more bytes, and bytes in the opposite order.
 ghost use Rattle.std.specs.Prelude.{◌≡◌, cond};
+ghost use Rattle.x86_values.specs.ExtensionRows.{UnspecifiedExtensions, WorkedExtensions, WorkedSigns, WorkedSwaps};
 ghost use Rattle.x86_values.specs.ExtensionLaws.{ExtensionLaws};
 ghost use Rattle.x86_values.specs.Extensions as spec;
 ghost use Rattle.x86_values.specs.Sizes.{IsSize};
@@ -84,4 +85,13 @@ pub fn bytes_swapped(word: Word) -> Word
 #[tactic(auto, using(crate::proofs::ExtensionsLess::extension_laws))]
 pub fn extension_laws()
     ensures { ExtensionLaws }
+{}
+
+/// Does nothing: its clauses are worked rows of extensions.
+#[tactic(auto, using(crate::proofs::ExtensionRows::worked_extensions, crate::proofs::ExtensionRows::unspecified_extensions, crate::proofs::ExtensionRows::worked_signs, crate::proofs::ExtensionRows::worked_swaps))]
+pub fn worked_extensions()
+    ensures known { WorkedExtensions }
+    ensures unspecified { UnspecifiedExtensions }
+    ensures signs { WorkedSigns }
+    ensures swaps { WorkedSwaps }
 {}

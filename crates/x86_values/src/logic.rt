@@ -1,5 +1,6 @@
 // The bitwise operations.
 ghost use Rattle.std.specs.Prelude.{◌≡◌};
+ghost use Rattle.x86_values.specs.LogicRows.{UnspecifiedBitwise, WorkedBitwise, WorkedBytes};
 ghost use Rattle.x86_values.specs.LogicLaws.{LogicLaws};
 ghost use Rattle.x86_values.specs.Logic as spec;
 ghost use Rattle.x86_values.specs.Sizes.{IsSize};
@@ -100,4 +101,12 @@ pub fn bitwise(kind: Bit, size: u8, left: Word, right: Word) -> Answered
 #[tactic(auto, using(crate::proofs::LogicLess::logic_laws))]
 pub fn logic_laws()
     ensures { LogicLaws }
+{}
+
+/// Does nothing: its clauses are worked rows of bitwise operations.
+#[tactic(auto, using(crate::proofs::LogicRows::worked_bytes, crate::proofs::LogicRows::worked_bitwise, crate::proofs::LogicRows::unspecified_bitwise))]
+pub fn worked_bitwise()
+    ensures bytes { WorkedBytes }
+    ensures known { WorkedBitwise }
+    ensures unspecified { UnspecifiedBitwise }
 {}

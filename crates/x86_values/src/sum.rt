@@ -1,5 +1,6 @@
 // Sums and differences.
 ghost use Rattle.std.specs.Prelude.{◌≡◌};
+ghost use Rattle.x86_values.specs.SumRows.{UnspecifiedDifferences, UnspecifiedSums, WorkedByteDifferences, WorkedByteSums, WorkedDifferences, WorkedSums};
 ghost use Rattle.x86_values.specs.SumLaws.{SumLaws};
 ghost use Rattle.x86_values.specs.Results as results;
 ghost use Rattle.x86_values.specs.Sizes.{IsSize};
@@ -110,4 +111,15 @@ pub fn sub(size: u8, left: Word, right: Word, carry: Option<bool>) -> Answered
 #[tactic(auto, using(crate::proofs::SumsLess::sum_laws))]
 pub fn sum_laws()
     ensures { SumLaws }
+{}
+
+/// Does nothing: its clauses are worked rows of sums and differences.
+#[tactic(auto, using(crate::proofs::SumRows::worked_byte_sums, crate::proofs::SumRows::worked_sums, crate::proofs::SumRows::worked_byte_differences, crate::proofs::SumRows::worked_differences, crate::proofs::SumRows::unspecified_sums, crate::proofs::SumRows::unspecified_differences))]
+pub fn worked_sums()
+    ensures byte_sums { WorkedByteSums }
+    ensures sums { WorkedSums }
+    ensures byte_differences { WorkedByteDifferences }
+    ensures differences { WorkedDifferences }
+    ensures unspecified_sums { UnspecifiedSums }
+    ensures unspecified_differences { UnspecifiedDifferences }
 {}
