@@ -1,2 +1,13 @@
 pub mod WordLemmas
 pub mod LessSpecified
+pub mod SizeLemmas
+pub mod ResultsLess
+pub mod SumsLess
+pub mod LogicLess
+pub mod ExtensionsLess
+pub mod ConditionsLess
+pub mod SizeRows
+pub mod SumRows
+pub mod LogicRows
+pub mod ExtensionRows
+pub mod ConditionRows
