@@ -1,2 +1,14 @@
 pub mod WordLemmas
 pub mod LessSpecified
+pub mod SizeLemmas
+pub mod OperandLemmas
+pub mod ProductLemmas
+pub mod DivisionLemmas
+pub mod ScanLemmas
+pub mod Itself
+pub mod ScanLaws
+pub mod SignedProducts
+pub mod ProductLaws
+pub mod Faults
+pub mod SignedDivisions
+pub mod DivisionLaws
