@@ -13,14 +13,14 @@ use Rattle.x86_values.specs.DivisionLaws.{DivisionLaws}
 use Rattle.x86_values.specs.LessSpecified.{WordLessSpecified, DividedLessSpecified}
 use Rattle.x86_values.proofs.LessSpecified.{same_number}
 use Rattle.x86_values.proofs.SizeLemmas.{full_bounds}
-use Rattle.x86_values.proofs.Itself.{word_of_itself}
+use Rattle.x86_values.proofs.ResultsLess.{number_itself}
 use Rattle.x86_values.proofs.Faults.{gives, no_fault}
 use Rattle.x86_values.proofs.SignedDivisions.{signed}
 
 -- ---- monotony
 fault_or : (b : Bool) (m k : ℕ) → DividedLessSpecified (cond b Fault (Got (word_of m) (word_of k))) (cond b Fault (Got (word_of m) (word_of k)))
 fault_or true m k = tt
-fault_or false m k = (word_of_itself m, word_of_itself k)
+fault_or false m k = (number_itself m, number_itself k)
 
 quotient_itself : (signed : Bool) (size n d : ℕ) → DividedLessSpecified (quotient signed size n d) (quotient signed size n d)
 quotient_itself false size n d = fault_or _ _ _

@@ -10,14 +10,14 @@ use Rattle.x86_values.specs.Products.{product, halves, product_of, multiply}
 use Rattle.x86_values.specs.ProductLaws.{ProductLaws}
 use Rattle.x86_values.specs.LessSpecified.{WordLessSpecified, ProductLessSpecified}
 use Rattle.x86_values.proofs.LessSpecified.{less_specified, same_number}
-use Rattle.x86_values.proofs.Itself.{word_of_itself, flags_itself, no_flags_less, nothing_of_size}
+use Rattle.x86_values.proofs.ResultsLess.{number_itself, all_flags_itself, no_flags_less, nothing_known}
 use Rattle.x86_values.proofs.SizeLemmas.{full_bounds}
 use Rattle.x86_values.proofs.OperandLemmas.{double_bounds}
 use Rattle.x86_values.proofs.SignedProducts.{signed_product}
 
 -- ---- monotony
 halves_itself : (signed : Bool) (size p : ℕ) → ProductLessSpecified (halves signed size p) (halves signed size p)
-halves_itself signed size p = record { low = word_of_itself (p % full size); high = word_of_itself (p / full size); flags = flags_itself (halves signed size p).flags }
+halves_itself signed size p = record { low = number_itself (p % full size); high = number_itself (p / full size); flags = all_flags_itself (halves signed size p).flags }
 
 unfoldable no_product : ℕ → Product
 no_product size = record { low = cut size no_word; high = cut size no_word; flags = no_flags }
@@ -33,8 +33,8 @@ nothing_multiplied signed size (Some a) None s = record { low = less_specified.n
 nothing_multiplied signed size (Some a) (Some b) s =
     let p = product signed size a b in
     record {
-      low = nothing_of_size size (p % full size) s (mod_below p (full size) (full_bounds size s).1);
-      high = nothing_of_size size (p / full size) s (div_below p (full size) (full size) (full_bounds size s).1 (product_range signed size a b s));
+      low = nothing_known size (p % full size) s (mod_below p (full size) (full_bounds size s).1);
+      high = nothing_known size (p / full size) s (div_below p (full size) (full size) (full_bounds size s).1 (product_range signed size a b s));
       flags = no_flags_less (halves signed size p).flags;
     }
 

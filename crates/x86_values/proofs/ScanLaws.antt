@@ -8,13 +8,13 @@ use Rattle.x86_values.specs.Scans.{set_bit, scanned, scan_of, scan}
 use Rattle.x86_values.specs.ScanLaws.{ScanLaws}
 use Rattle.x86_values.specs.LessSpecified.{WordLessSpecified, AnsweredLessSpecified}
 use Rattle.x86_values.proofs.LessSpecified.{less_specified, same_number, of_sizes}
-use Rattle.x86_values.proofs.Itself.{word_of_itself, flags_itself, no_flags_less, nothing_of_size}
+use Rattle.x86_values.proofs.ResultsLess.{number_itself, all_flags_itself, no_flags_less, nothing_known}
 use Rattle.x86_values.proofs.ScanLemmas.{lowest_is, highest_is, set_bit_small}
 
 scanned_itself : (reverse : Bool) (size n : ℕ) → AnsweredLessSpecified (scanned reverse size n) (scanned reverse size n)
 scanned_itself reverse size n = elim (n == 0) as (λ (b : Bool). let a = cond b (record { value = cut size no_word; flags = record no_flags { zf = Some true } }) (record { value = word_of (set_bit reverse n); flags = record no_flags { zf = Some false } }) in AnsweredLessSpecified a a) [
-  | true ↦ record { value = less_specified.nothing size no_word; flags = flags_itself (record no_flags { zf = Some true }) }
-  | false ↦ record { value = word_of_itself (set_bit reverse n); flags = flags_itself (record no_flags { zf = Some false }) }
+  | true ↦ record { value = less_specified.nothing size no_word; flags = all_flags_itself (record no_flags { zf = Some true }) }
+  | false ↦ record { value = number_itself (set_bit reverse n); flags = all_flags_itself (record no_flags { zf = Some false }) }
 ]
 
 bit_of_size : (reverse : Bool) (size n : ℕ) → IsSize size → set_bit reverse n < full size
@@ -25,7 +25,7 @@ nothing_scanned : (reverse : Bool) (size : ℕ) (m : Option ℕ) → IsSize size
 nothing_scanned reverse size None s = record { value = less_specified.nothing size no_word; flags = no_flags_less no_flags }
 nothing_scanned reverse size (Some n) s = elim (n == 0) as (λ (b : Bool). AnsweredLessSpecified (no_result size) (cond b (record { value = cut size no_word; flags = record no_flags { zf = Some true } }) (record { value = word_of (set_bit reverse n); flags = record no_flags { zf = Some false } }))) [
   | true ↦ record { value = less_specified.nothing size no_word; flags = no_flags_less (record no_flags { zf = Some true }) }
-  | false ↦ record { value = nothing_of_size size (set_bit reverse n) s (bit_of_size reverse size n s); flags = no_flags_less (record no_flags { zf = Some false }) }
+  | false ↦ record { value = nothing_known size (set_bit reverse n) s (bit_of_size reverse size n s); flags = no_flags_less (record no_flags { zf = Some false }) }
 ]
 
 scan_less : (reverse : Bool) (size : ℕ) (x u : Word) → IsSize size → WordLessSpecified x u → AnsweredLessSpecified (scan reverse size x) (scan reverse size u)

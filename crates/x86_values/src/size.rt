@@ -1,5 +1,6 @@
 // The lowest bytes of a word, and the numbers of a size.
 ghost use Rattle.std.specs.Prelude.{◌≡◌, cond};
+ghost use Rattle.x86_values.specs.SizeRows.{WorkedCuts, WorkedNumbers, WorkedParities, WorkedSizes};
 ghost use Rattle.x86_values.specs.Results as results;
 ghost use Rattle.x86_values.specs.Sizes as spec;
 ghost use Rattle.x86_values.specs.Sizes.{IsSize};
@@ -91,3 +92,12 @@ pub(crate) fn no_result(size: u8) -> Answered
         flags: no_flags(),
     }
 }
+
+/// Does nothing: its clauses are worked rows of sizes, of cuts, of numbers and of parities.
+#[tactic(auto, using(crate::proofs::SizeRows::worked_sizes, crate::proofs::SizeRows::worked_cuts, crate::proofs::SizeRows::worked_numbers, crate::proofs::SizeRows::worked_parities))]
+pub fn worked_sizes()
+    ensures sizes { WorkedSizes }
+    ensures cuts { WorkedCuts }
+    ensures numbers { WorkedNumbers }
+    ensures parities { WorkedParities }
+{}
