@@ -21,3 +21,6 @@ pub mod ProductLaws
 pub mod Faults
 pub mod SignedDivisions
 pub mod DivisionLaws
+pub mod ProductRows
+pub mod DivisionRows
+pub mod ScanRows

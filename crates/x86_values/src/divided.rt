@@ -1,6 +1,7 @@
 // Divisions.
 ghost use Rattle.std.specs.Prelude.{◌≡◌, ◌<◌, ◌*◌, true};
 ghost use Rattle.x86_values.specs.DivisionLaws.{DivisionLaws};
+ghost use Rattle.x86_values.specs.DivisionRows.{WorkedByteDiv, WorkedDiv, WorkedByteIdiv, WorkedByteLimits, WorkedIdiv, UnspecifiedDivisions};
 ghost use Rattle.x86_values.specs.Divisions as spec;
 ghost use Rattle.x86_values.specs.Sizes as sizes;
 ghost use Rattle.x86_values.specs.Sizes.{IsSize};
@@ -19,7 +20,8 @@ pub enum Divided {
 }
 
 /// The number of twice the size whose halves are the lowest `size` bytes of `high` and of `low`, divided by the lowest `size` bytes
-/// of `by` and truncated towards 0 (Intel SDM volume 2, "DIV", "IDIV"). The remainder has the sign of the dividend.
+/// of `by` and truncated towards 0 (Intel SDM volume 2, "DIV", "IDIV"). The remainder has the sign of the dividend. Quotient and
+/// remainder are `size` bytes, with zeros above them. Nothing is claimed where a byte of an operand is unspecified.
 #[tactic(auto, unfolding(crate::specs::Divisions::divide), using(crate::proofs::DivisionLemmas::dividend_bounds))]
 pub fn divide(signed: bool, size: u8, high: Word, low: Word, by: Word) -> Divided
     requires size { IsSize size }
@@ -38,6 +40,7 @@ pub fn divide(signed: bool, size: u8, high: Word, low: Word, by: Word) -> Divide
     }
 }
 
+// Of a dividend of twice the size and a divisor that isn't 0.
 fn quotient(signed: bool, size: u8, dividend: u64, divisor: u64) -> Divided
     requires size { IsSize size }
     requires dividend { dividend < sizes.full size * sizes.full size }
@@ -104,6 +107,7 @@ fn is_too_great(size: u8, negative: bool, quotient: u64) -> bool
     }
 }
 
+// The quotient and the remainder of two distances from 0, with their signs.
 #[tactic(auto, using(crate::proofs::SizeLemmas::full_bounds))]
 fn of_distances(
     size: u8,
@@ -134,4 +138,15 @@ fn of_distances(
 #[tactic(auto, using(crate::proofs::DivisionLaws::division_laws))]
 pub fn division_laws()
     ensures { DivisionLaws }
+{}
+
+/// Does nothing: its clauses are worked rows of divisions.
+#[tactic(auto, using(crate::proofs::DivisionRows::worked_byte_div, crate::proofs::DivisionRows::worked_div, crate::proofs::DivisionRows::worked_byte_idiv, crate::proofs::DivisionRows::worked_byte_limits, crate::proofs::DivisionRows::worked_idiv, crate::proofs::DivisionRows::unspecified_divisions))]
+pub fn worked_divisions()
+    ensures byte_div { WorkedByteDiv }
+    ensures div { WorkedDiv }
+    ensures byte_idiv { WorkedByteIdiv }
+    ensures byte_limits { WorkedByteLimits }
+    ensures idiv { WorkedIdiv }
+    ensures unspecified { UnspecifiedDivisions }
 {}

@@ -1,6 +1,7 @@
 // Products.
 ghost use Rattle.std.specs.Prelude.{◌≡◌, ◌<◌, ◌*◌};
 ghost use Rattle.x86_values.specs.ProductLaws.{ProductLaws};
+ghost use Rattle.x86_values.specs.ProductRows.{WorkedMul, WorkedByteImul, WorkedImul, UnspecifiedProducts};
 ghost use Rattle.x86_values.specs.Products as spec;
 ghost use Rattle.x86_values.specs.Sizes as sizes;
 ghost use Rattle.x86_values.specs.Sizes.{IsSize};
@@ -110,4 +111,13 @@ fn halves(signed: bool, size: u8, product: u128) -> Product
 #[tactic(auto, using(crate::proofs::ProductLaws::product_laws))]
 pub fn product_laws()
     ensures { ProductLaws }
+{}
+
+/// Does nothing: its clauses are worked rows of products.
+#[tactic(auto, using(crate::proofs::ProductRows::worked_mul, crate::proofs::ProductRows::worked_byte_imul, crate::proofs::ProductRows::worked_imul, crate::proofs::ProductRows::unspecified_products))]
+pub fn worked_products()
+    ensures mul { WorkedMul }
+    ensures byte_imul { WorkedByteImul }
+    ensures imul { WorkedImul }
+    ensures unspecified { UnspecifiedProducts }
 {}

@@ -1,6 +1,7 @@
 // Bit scans.
 ghost use Rattle.std.specs.Prelude.{◌≡◌, ◌<◌};
 ghost use Rattle.x86_values.specs.ScanLaws.{ScanLaws};
+ghost use Rattle.x86_values.specs.ScanRows.{WorkedBsf, WorkedBsr, UnspecifiedScans};
 ghost use Rattle.x86_values.specs.Scans as spec;
 ghost use Rattle.x86_values.specs.Sizes.{IsSize};
 
@@ -52,4 +53,12 @@ fn set_bit(reverse: bool, bits: u32) -> u32
 #[tactic(auto, using(crate::proofs::ScanLaws::scan_laws))]
 pub fn scan_laws()
     ensures { ScanLaws }
+{}
+
+/// Does nothing: its clauses are worked rows of bit scans.
+#[tactic(auto, using(crate::proofs::ScanRows::worked_bsf, crate::proofs::ScanRows::worked_bsr, crate::proofs::ScanRows::unspecified_scans))]
+pub fn worked_scans()
+    ensures bsf { WorkedBsf }
+    ensures bsr { WorkedBsr }
+    ensures unspecified { UnspecifiedScans }
 {}
