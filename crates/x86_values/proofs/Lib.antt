@@ -17,6 +17,7 @@ pub mod DivisionLemmas
 pub mod ScanLemmas
 pub mod ScanLaws
 pub mod SignedProducts
+pub mod ProductFlags
 pub mod ProductLaws
 pub mod Faults
 pub mod SignedDivisions

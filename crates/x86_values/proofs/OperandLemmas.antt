@@ -3,7 +3,7 @@ use Rattle.std.proofs.Common.{◌≡◌, ℕ, ◌+◌, ◌*◌, ◌<◌, ◌≤�
 use Rattle.x86_values.specs.declared.byte.Byte.{Byte}
 use Rattle.x86_values.specs.declared.byte.Byte.TheVariants.{Known}
 use Rattle.x86_values.specs.declared.word.Word.{Word}
-use Rattle.x86_values.specs.Sizes.{IsSize, cut, full}
+use Rattle.x86_values.specs.Sizes.{IsSize, cut, full, half}
 use Rattle.x86_values.proofs.LessSpecified.{of_sizes}
 
 pub double_bounds : (size : ℕ) → IsSize size → (full size * full size ≤ 18446744073709551616) × (0 < full size * full size)
@@ -19,3 +19,6 @@ number_below size a b c d x w s e p q r t k l m n = of_sizes (λ (size : ℕ). x
     (λ e. omega (arith, is_zero x.b2 c (ap (λ (x : Word). x.b2) e) r, is_zero x.b3 d (ap (λ (x : Word). x.b3) e) t, k, l))
     (λ e. omega (arith, k, l, m, n))
     e
+
+pub two_halves : (size : ℕ) → IsSize size → half size + half size ≡ full size
+two_halves size s = of_sizes (λ (size : ℕ). half size + half size ≡ full size) size s (omega arith) (omega arith) (omega arith)

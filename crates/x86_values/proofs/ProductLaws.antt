@@ -14,6 +14,7 @@ use Rattle.x86_values.proofs.ResultsLess.{number_itself, all_flags_itself, no_fl
 use Rattle.x86_values.proofs.SizeLemmas.{full_bounds}
 use Rattle.x86_values.proofs.OperandLemmas.{double_bounds}
 use Rattle.x86_values.proofs.SignedProducts.{signed_product}
+use Rattle.x86_values.proofs.ProductFlags.{unsigned_exceeds, signed_exceeds}
 
 -- ---- monotony
 halves_itself : (signed : Bool) (size p : ℕ) → ProductLessSpecified (halves signed size p) (halves signed size p)
@@ -48,4 +49,4 @@ multiply_less signed size x y u v s h k = go (number size x) (number size y) ref
     go (Some a) (Some b) e f = rw ((same_number size a x u s h e).0, (same_number size b y v s k f).0) (halves_itself signed size (product signed size a b))
 
 pub product_laws : ProductLaws
-product_laws = record { multiply_less = multiply_less; signed_product = signed_product }
+product_laws = record { multiply_less = multiply_less; signed_product = signed_product; unsigned_exceeds = unsigned_exceeds; signed_exceeds = signed_exceeds }

@@ -11,13 +11,10 @@ use Rattle.x86_values.specs.Results.{differ}
 use Rattle.x86_values.specs.Divisions.{with_sign, too_great, quotient}
 use Rattle.x86_values.specs.ProductLaws.{distance}
 use Rattle.x86_values.specs.DivisionLaws.{is_double_negative, double_distance, IsSignedQuotient}
-use Rattle.x86_values.proofs.LessSpecified.{of_sizes}
 use Rattle.x86_values.proofs.SizeLemmas.{full_bounds}
-use Rattle.x86_values.proofs.SignedProducts.{whole_distance}
+use Rattle.x86_values.proofs.OperandLemmas.{two_halves}
+use Rattle.x86_values.proofs.SignedProducts.{whole_distance, near}
 use Rattle.x86_values.proofs.Faults.{gives, no_fault}
-
-two_halves : (size : ℕ) → IsSize size → half size + half size ≡ full size
-two_halves size s = of_sizes (λ (size : ℕ). half size + half size ≡ full size) size s (omega arith) (omega arith) (omega arith)
 
 negative_if : (size n : ℕ) → half size ≤ n → is_negative size n ≡ true
 negative_if size n h = grind (arith, nat_tests)
@@ -45,13 +42,16 @@ of_size : (size : ℕ) (p : Bool) (m : ℕ) → IsSize size → m < full size �
 of_size size true m s h = mod_below (full size - m) (full size) (full_bounds size s).1
 of_size size false m s h = h
 
--- ---- distances from 0 of divisors
-divisor_distance : (size d : ℕ) → IsSize size → 0 < d → d < full size → (0 < distance size d) × (distance size d ≤ half size)
-divisor_distance size d s h l = go (is_negative size d) refl
+-- ---- a divisor that isn't 0 has a distance from 0
+apart : (size d : ℕ) → 0 < d → d < full size → 0 < distance size d
+apart size d h l = go (is_negative size d)
   where
-    go : (p : Bool) → is_negative size d ≡ p → (0 < with_sign (full size) p d) × (with_sign (full size) p d ≤ half size)
-    go true e = rw (whole_distance (full size) d h l) (omega arith, let k : half size ≤ d = grind (arith, nat_tests) in omega (arith, two_halves size s))
-    go false e = (h, let k : d < half size = grind (arith, nat_tests) in omega arith)
+    go : (p : Bool) → 0 < with_sign (full size) p d
+    go true = rw (whole_distance (full size) d h l) (omega arith)
+    go false = h
+
+divisor_distance : (size d : ℕ) → IsSize size → 0 < d → d < full size → (0 < distance size d) × (distance size d ≤ half size)
+divisor_distance size d s h l = (apart size d h l, near size d s l)
 
 -- ---- the quotient
 fits : (size : ℕ) (p : Bool) (m : ℕ) → too_great size p m ≡ false → (p ≡ true → m ≤ half size) × (p ≡ false → m < half size)

@@ -1,13 +1,14 @@
 -- Signed products by distances from 0.
-use Rattle.std.proofs.Common.{◌≡◌, ℕ, ◌+◌, ◌-◌, ◌*◌, ◌%◌, ◌<◌, Bool, true, false, cond, refl, ap, sym, ◌∙◌, arith}
+use Rattle.std.proofs.Common.{◌≡◌, ℕ, ◌+◌, ◌-◌, ◌*◌, ◌%◌, ◌<◌, ◌≤◌, Bool, true, false, cond, refl, ap, sym, ◌∙◌, arith}
 use Rattle.std.proofs.Math.Nat.{mod-eq_of_lt, add-mod_left, mul-add, add-mul}
 use Rattle.std.proofs.lemmas.Bool.Decides.{nat_tests}
-use Rattle.x86_values.specs.Sizes.{IsSize, full, is_negative}
+use Rattle.x86_values.specs.Sizes.{IsSize, full, half, is_negative}
 use Rattle.x86_values.specs.Results.{differ}
 use Rattle.x86_values.specs.Divisions.{with_sign}
 use Rattle.x86_values.specs.Products.{product}
 use Rattle.x86_values.specs.ProductLaws.{distance}
 use Rattle.x86_values.proofs.LessSpecified.{of_sizes}
+use Rattle.x86_values.proofs.OperandLemmas.{two_halves}
 use Rattle.x86_values.proofs.ProductLemmas.{product_below}
 
 -- a product with a number and with its distance from the range
@@ -43,7 +44,7 @@ neither : (f a b : ℕ) → a < f → b < f → (a * b + 2 * (f * f) - (0 + 0)) 
 neither f a b l m = ap (λ n. n % (f * f)) (neither_sum f a b) ∙ add-mod_left (f * f) (f * f + a * b) ∙ add-mod_left (f * f) (a * b) ∙ mod-eq_of_lt (product_below f a b l m)
 
 -- ---- a number that is negative is not 0, and its distance from 0 is that from the range
-pub positive : (size a : ℕ) → IsSize size → is_negative size a ≡ true → 0 < a
+positive : (size a : ℕ) → IsSize size → is_negative size a ≡ true → 0 < a
 positive size a s = of_sizes (λ (size : ℕ). is_negative size a ≡ true → 0 < a) size s (λ h. grind (arith, nat_tests)) (λ h. grind (arith, nat_tests)) (λ h. grind (arith, nat_tests))
 
 pub whole_distance : (f a : ℕ) → 0 < a → a < f → (f - a) % f ≡ f - a
@@ -57,3 +58,11 @@ signed_product size a b s l m = go (is_negative size a) (is_negative size b) (po
     go true false h k = rw (whole_distance (full size) a (h refl) l) (left (full size) a b (full size - a) (omega arith) (omega (arith, h refl)) m)
     go false true h k = rw (whole_distance (full size) b (k refl) m) (right (full size) a b (full size - b) (omega arith) l (omega (arith, k refl)))
     go false false h k = neither (full size) a b l m
+
+-- ---- no number of the size is further from 0 than half of the range
+pub near : (size a : ℕ) → IsSize size → a < full size → distance size a ≤ half size
+near size a s l = go (is_negative size a) refl
+  where
+    go : (p : Bool) → is_negative size a ≡ p → with_sign (full size) p a ≤ half size
+    go true e = rw (whole_distance (full size) a (positive size a s e) l) (let k : half size ≤ a = grind (arith, nat_tests) in omega (arith, two_halves size s))
+    go false e = let k : a < half size = grind (arith, nat_tests) in omega arith
