@@ -1,9 +1,8 @@
 // The conditions of jumps, of sets and of moves.
-ghost use Rattle.std.specs.Prelude.{◌≡◌};
+ghost use Rattle.std.specs.Prelude.{◌≡◌, not};
 ghost use Rattle.std.specs.Option.{option_map};
-ghost use Rattle.std.specs.Prelude.{not};
-ghost use Rattle.x86_values.specs.ConditionRows.{OfOneFlag, OfOneUnspecified, OfThreeFlags, OfTwoFlags, OfTwoUnspecified};
 ghost use Rattle.x86_values.specs.ConditionLaws.{ConditionLaws};
+ghost use Rattle.x86_values.specs.ConditionRows.{OfOneFlag, OfOneUnspecified, OfThreeFlags, OfTwoFlags, OfTwoUnspecified};
 ghost use Rattle.x86_values.specs.Conditions as spec;
 ghost use Rattle.x86_values.specs.Results as results;
 

@@ -1,7 +1,7 @@
 // Extensions to more bytes, and bytes in the opposite order.
 ghost use Rattle.std.specs.Prelude.{◌≡◌, cond};
-ghost use Rattle.x86_values.specs.ExtensionRows.{UnspecifiedExtensions, WorkedExtensions, WorkedSigns, WorkedSwaps};
 ghost use Rattle.x86_values.specs.ExtensionLaws.{ExtensionLaws};
+ghost use Rattle.x86_values.specs.ExtensionRows.{UnspecifiedExtensions, WorkedExtensions, WorkedSigns, WorkedSwaps};
 ghost use Rattle.x86_values.specs.Extensions as spec;
 ghost use Rattle.x86_values.specs.Sizes.{IsSize};
 
@@ -12,7 +12,7 @@ fn sign_byte(byte: Byte) -> Byte
     ensures exact { result ≡ spec.sign_byte byte }
 {
     match byte {
-        Byte::Known(byte) => Byte::Known(if byte >= 128 { 255 } else { 0 }),
+        Byte::Known(byte) => Byte::Known(if byte >= 0x80 { 0xFF } else { 0 }),
         Byte::Unspecified => Byte::Unspecified,
     }
 }

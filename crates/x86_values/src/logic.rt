@@ -1,8 +1,8 @@
 // The bitwise operations.
 ghost use Rattle.std.specs.Prelude.{◌≡◌};
-ghost use Rattle.x86_values.specs.LogicRows.{UnspecifiedBitwise, WorkedBitwise, WorkedBytes};
-ghost use Rattle.x86_values.specs.LogicLaws.{LogicLaws};
 ghost use Rattle.x86_values.specs.Logic as spec;
+ghost use Rattle.x86_values.specs.LogicLaws.{LogicLaws};
+ghost use Rattle.x86_values.specs.LogicRows.{UnspecifiedBitwise, WorkedBitwise, WorkedBytes};
 ghost use Rattle.x86_values.specs.Sizes.{IsSize};
 
 use crate::result::flags_of;
@@ -28,12 +28,12 @@ fn and_byte(left: Byte, right: Byte) -> Byte
     }
 }
 
-// OR of two bytes: 255 on one side gives 255.
+// OR of two bytes: 0xFF on one side gives 0xFF.
 fn or_byte(left: Byte, right: Byte) -> Byte
     ensures exact { result ≡ spec.or_byte left right }
 {
     match (left, right) {
-        (Byte::Known(255), _) | (_, Byte::Known(255)) => Byte::Known(255),
+        (Byte::Known(0xFF), _) | (_, Byte::Known(0xFF)) => Byte::Known(0xFF),
         (Byte::Known(left), Byte::Known(right)) => Byte::Known(left | right),
         _ => Byte::Unspecified,
     }
@@ -82,7 +82,7 @@ fn logic_flags(size: u8, number: Option<u32>) -> Flags
 }
 
 /// AND, OR or XOR of the lowest `size` bytes, 1, 2 or 4, of two words, with zeros above them, and the five flags after it. A byte of
-/// the result is unspecified where one of its operands is, except that AND with 0 gives 0 and OR with 255 gives 255. All flags are
+/// the result is unspecified where one of its operands is, except that AND with 0 gives 0 and OR with 0xFF gives 0xFF. All flags are
 /// unspecified where a byte of the result is. Intel SDM volume 2, "AND", "OR", "XOR"; "TEST" is AND whose result is dropped, and
 /// "NOT" is XOR with ones whose flags are.
 #[tactic(auto, unfolding(crate::specs::Logic::bitwise))]

@@ -1,7 +1,7 @@
 // The lowest bytes of a word, and the numbers of a size.
 ghost use Rattle.std.specs.Prelude.{◌≡◌, cond};
-ghost use Rattle.x86_values.specs.SizeRows.{WorkedCuts, WorkedNumbers, WorkedParities, WorkedSizes};
 ghost use Rattle.x86_values.specs.Results as results;
+ghost use Rattle.x86_values.specs.SizeRows.{WorkedCuts, WorkedNumbers, WorkedParities, WorkedSizes};
 ghost use Rattle.x86_values.specs.Sizes as spec;
 ghost use Rattle.x86_values.specs.Sizes.{IsSize};
 ghost use Rattle.x86_values.specs.declared.byte.Byte.TheVariants.{Known};
@@ -14,9 +14,9 @@ pub(crate) fn full(size: u8) -> u64
     ensures exact { result ≡ spec.full size }
 {
     match size {
-        1 => 256,
-        2 => 65536,
-        _ => 4294967296,
+        1 => 0x100,
+        2 => 0x10000,
+        _ => 0x1_0000_0000,
     }
 }
 

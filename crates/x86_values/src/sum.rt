@@ -1,9 +1,9 @@
 // Sums and differences.
 ghost use Rattle.std.specs.Prelude.{◌≡◌};
-ghost use Rattle.x86_values.specs.SumRows.{UnspecifiedDifferences, UnspecifiedSums, WorkedByteDifferences, WorkedByteSums, WorkedDifferences, WorkedSums};
-ghost use Rattle.x86_values.specs.SumLaws.{SumLaws};
 ghost use Rattle.x86_values.specs.Results as results;
 ghost use Rattle.x86_values.specs.Sizes.{IsSize};
+ghost use Rattle.x86_values.specs.SumLaws.{SumLaws};
+ghost use Rattle.x86_values.specs.SumRows.{UnspecifiedDifferences, UnspecifiedSums, WorkedByteDifferences, WorkedByteSums, WorkedDifferences, WorkedSums};
 ghost use Rattle.x86_values.specs.Sums as spec;
 
 use crate::result::result_of;
