@@ -11,3 +11,17 @@ pub mod SumRows
 pub mod LogicRows
 pub mod ExtensionRows
 pub mod ConditionRows
+pub mod OperandLemmas
+pub mod ProductLemmas
+pub mod DivisionLemmas
+pub mod ScanLemmas
+pub mod ScanLaws
+pub mod SignedProducts
+pub mod ProductFlags
+pub mod ProductLaws
+pub mod Faults
+pub mod SignedDivisions
+pub mod DivisionLaws
+pub mod ProductRows
+pub mod DivisionRows
+pub mod ScanRows

@@ -16,6 +16,9 @@ flag_itself None = tt
 pub no_flags_less : (f : Flags) → FlagsLessSpecified no_flags f
 no_flags_less f = record { cf = tt; pf = tt; zf = tt; sf = tt; of = tt }
 
+pub all_flags_itself : (f : Flags) → FlagsLessSpecified f f
+all_flags_itself f = record { cf = flag_itself f.cf; pf = flag_itself f.pf; zf = flag_itself f.zf; sf = flag_itself f.sf; of = flag_itself f.of }
+
 pub flags_itself : (size n : ℕ) (carry overflow : Option Bool) → FlagsLessSpecified (flags_of size n carry overflow) (flags_of size n carry overflow)
 flags_itself size n carry overflow = record { cf = flag_itself carry; pf = refl; zf = refl; sf = refl; of = flag_itself overflow }
 
