@@ -13,3 +13,10 @@ pub mod Moves
 pub mod Rows
 pub mod AluRows
 pub mod LogicRows
+pub mod ProductRows
+pub mod DivisionRows
+pub mod RotateRows
+pub mod ShiftRows
+pub mod DoubleShiftRows
+pub mod ScanRows
+pub mod ExtensionRows
