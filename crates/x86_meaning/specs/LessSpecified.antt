@@ -1,6 +1,6 @@
 -- States that are less specified than others: each byte and flag that is known on the left is the same on the right, and all else is
 -- the same. The input is one of bytes, so that what is read into memory is. Where a step of the left state goes on, the right one's goes on to a state like that.
-use Rattle.std.specs.Prelude.{◌≡◌, ℕ, List, Result, Ok, Err}
+use Rattle.std.specs.Prelude.{◌≡◌, ℕ, Result, Ok, Err}
 use Rattle.x86_values.specs.LessSpecified.{WordLessSpecified, FlagsLessSpecified}
 use Rattle.outside.specs.Environment.{IsEnvironment}
 use Rattle.traces.specs.Trace.{Move, Stand, Go, Halt}
@@ -33,8 +33,8 @@ abbrev pub MoveLessSpecified : Move State → Move State → Type 0
 MoveLessSpecified (Go ls s) (Go ks t) = (ls ≡ ks) × StateLessSpecified s t
 MoveLessSpecified (Go ls s) (Stand ks e) = ⊥
 MoveLessSpecified (Go ls s) (Halt ks e) = ⊥
-MoveLessSpecified (Stand ls e) m = EndLessSpecified e (Stand {S = State} ls e) m
-MoveLessSpecified (Halt ls e) m = EndLessSpecified e (Halt {S = State} ls e) m
+MoveLessSpecified (Stand ls e) m = EndLessSpecified e (Stand ls e) m
+MoveLessSpecified (Halt ls e) m = EndLessSpecified e (Halt ls e) m
 
 -- so with effects
 pub record EffectLessSpecified (d e : Effect) : Type 0 where
@@ -50,7 +50,7 @@ StopLessSpecified DivideFault x y = x ≡ y
 abbrev pub ResultLessSpecified : Result Effect Stop → Result Effect Stop → Type 0
 ResultLessSpecified (Ok d) (Ok e) = EffectLessSpecified d e
 ResultLessSpecified (Ok d) (Err x) = ⊥
-ResultLessSpecified (Err x) r = StopLessSpecified x (Err {T = Effect} x) r
+ResultLessSpecified (Err x) r = StopLessSpecified x (Err x) r
 
 pub record MonotoneLaws : Type 0 where
   -- an effect is monotone, whatever the fields name
