@@ -14,16 +14,12 @@ ulimit -c 0
 
 # calls STATUS LINE WORDS..: ./sw ends so, says that line alone on the standard error (none if empty), and prints nothing.
 calls() {
-    local wanted=$1 line=$2
+    local wanted=$1 line=$2 got
     shift 2
     "$sw" "$@" >said.out 2>said.err
-    answered $? "$wanted" "$line"
-}
-
-# answered GOT STATUS LINE: what calls says of a call that ended with GOT.
-answered() {
-    { [ -z "$3" ] || echo "$3"; } >wanted.err
-    [ "$1" -eq "$2" ] && [ ! -s said.out ] && cmp -s said.err wanted.err
+    got=$?
+    { [ -z "$line" ] || echo "$line"; } >wanted.err
+    [ "$got" -eq "$wanted" ] && [ ! -s said.out ] && cmp -s said.err wanted.err
 }
 
 # stores_nothing STATUS LINE WORDS..: as calls, and there is no file out and no file map after it.
@@ -88,12 +84,12 @@ limited() {
 121" ]
 }
 
-# failing CALL ERROR STATUS LINE WORDS..: as calls, where each sync or close of a file fails with that error.
-failing() {
-    local call=$1 error=$2 wanted=$3 line=$4
-    shift 4
-    LD_PRELOAD=$folder/failing.so FAILS=$call ERROR=$error "$sw" "$@" >said.out 2>said.err
-    answered $? "$wanted" "$line"
+# unsynced ERROR STATUS LINE WORDS..: as calls, where each sync of a file fails with that error.
+unsynced() {
+    local LD_PRELOAD=$folder/unsynced.so ERROR=$1
+    export LD_PRELOAD ERROR
+    shift
+    calls "$@"
 }
 
 # holds FILE TEXT: the file is that line.
@@ -194,39 +190,26 @@ check "MAP past a limit on files: 121" limited 0 rewrite exit7 piped map
 wait
 check "MAP past a limit on files: the new file came through whole" cmp -s received exit7.new
 
-cat >failing.c <<'C'
+cat >unsynced.c <<'C'
 #include <errno.h>
 #include <stdlib.h>
-#include <string.h>
-#include <sys/syscall.h>
-#include <unistd.h>
-static int fails(const char *call, int number, int file) {
-    const char *failing = getenv("FAILS");
-    int done = syscall(number, file);
-    if (!failing || strcmp(failing, call)) return done;
-    errno = atoi(getenv("ERROR"));
-    return -1;
-}
-int fsync(int file) { return fails("sync", SYS_fsync, file); }
-int fdatasync(int file) { return fails("sync", SYS_fdatasync, file); }
-int close(int file) { return fails("close", SYS_close, file); }
+int fsync(int file) { (void)file; errno = atoi(getenv("ERROR")); return -1; }
+int fdatasync(int file) { return fsync(file); }
 C
-if cc -shared -fPIC -o failing.so failing.c 2>/dev/null; then
+if cc -shared -fPIC -o unsynced.so unsynced.c 2>/dev/null; then
     # EIO, ENOSPC, EDQUOT; and EINVAL, EROFS, EOPNOTSUPP
     for error in 5 28 122; do
-        for call in sync close; do
-            rm -f out map
-            check "OUT, a $call with error $error: 121" failing "$call" "$error" 121 "sw: host fault" rewrite exit7 out map
-            check "OUT, a $call with error $error: no map stored" [ ! -e map ]
-        done
+        rm -f out map
+        check "OUT can't be synced, error $error: 121" unsynced "$error" 121 "sw: host fault" rewrite exit7 out map
+        check "OUT can't be synced, error $error: no map stored" [ ! -e map ]
     done
     for error in 22 30 95; do
         rm -f out map
-        check "there is nothing to sync, error $error: 0" failing sync "$error" 0 "" rewrite exit7 out map
+        check "there is nothing to sync, error $error: 0" unsynced "$error" 0 "" rewrite exit7 out map
         check "there is nothing to sync, error $error: both are stored" cmp -s out exit7.new
     done
 else
-    echo "skipped  syncs and closes that fail: there is no C compiler"
+    echo "skipped  syncs that fail: there is no C compiler"
 fi
 
 # Words name files, and two words may name one.

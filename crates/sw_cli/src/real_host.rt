@@ -7,19 +7,9 @@ use crate::transfer::{read_front, synced, write_whole};
 use std::alloc::Global;
 use std::fs::OpenFile;
 use std::io::ErrorKind;
-use std::os::fd::{IntoRawFd, RawFd};
 use std::rt::Files;
 use std::{fs, io};
 use sw_host::{Host, HostFault};
-
-// Closes a file, which nothing else closes.
-fn closed(file: RawFd) -> io::Result<()> {
-    if libc::close(file) < 0 {
-        Err(io::Error::from(ErrorKind::Other))
-    } else {
-        Ok(())
-    }
-}
 
 /// The files and the standard error of a runtime, and how many calls of them failed.
 #[derive(Drop)]
@@ -28,10 +18,7 @@ pub struct RealHost<R> {
     faults: u64,
 }
 
-impl<R: Files + Eprint> RealHost<R>
-where
-    R::File: IntoRawFd,
-{
+impl<R: Files + Eprint> RealHost<R> {
     /// A host none of whose calls failed so far.
     pub fn new(rt: R) -> RealHost<R>
         ensures { result.faults ≡ 0 }
@@ -65,20 +52,16 @@ where
         read_front(alloc, &mut file, limit)
     }
 
-    // A file that wasn't there is made readable and writable, and no file is marked executable. The sync and the close show the
-    // errors of a disk or a server that takes the bytes later; a file that is dropped is closed too, and its error is lost.
+    // A file that wasn't there is made readable and writable, and no file is marked executable. The sync shows the errors of
+    // a device that takes the bytes later; the kit's close shows none.
     fn write_file(&self, name: &str, bytes: &[u8]) -> io::Result<()> {
         let mut file = fs::create(&self.rt, name)?;
         write_whole(&mut file, bytes)?;
-        synced(file.sync_data())?;
-        closed(file.into_raw_fd())
+        synced(file.sync_data())
     }
 }
 
-impl<R: Files + Eprint> Host for RealHost<R>
-where
-    R::File: IntoRawFd,
-{
+impl<R: Files + Eprint> Host for RealHost<R> {
     ghost use Rattle.std.specs.Prelude.{None};
     ghost use Rattle.sw_host.specs.Told.{Tells, HasCause};
     ghost use Rattle.sw_host.specs.Calls.{Loads, Stores, Lines};
