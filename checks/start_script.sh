@@ -5,7 +5,7 @@
 set -u
 top=$(dirname "$(dirname "$(readlink -f "$0")")")
 . "$top/checks/check.sh"
-folder=$(mktemp -d) || exit 1
+folder=$(readlink -f "$(mktemp -d)") || exit 1
 trap 'rm -rf "$folder"' EXIT
 copy=$folder/copy
 mkdir "$copy" "$folder/bin" "$folder/elsewhere"
@@ -15,13 +15,14 @@ program=$copy/crates/sw_cli/out/sw_cli
 # What stands in the copy is older than what is built, and what is touched below is newer.
 find "$copy" -exec touch -d "1 hour ago" {} +
 
-# The program says its words, its input's first line and whether the signal of a limit on files is ignored.
+# The program says its words, its input's first line, its folder and whether the signal of a limit on files is ignored.
 cat >"$folder/program" <<'PROGRAM'
 #!/bin/sh
 [ $# -gt 0 ] || { echo "sw: usage" >&2; exit 125; }
 case $1 in -*) echo "sw: usage" >&2; exit 125 ;; esac
 printf '<%s>' "$@"
 read -r line && echo " $line"
+pwd -P >"$0.folder" 2>/dev/null
 ignored=$(sed -n 's/^SigIgn:[[:space:]]*//p' /proc/self/status)
 [ $((0x$ignored >> 24 & 1)) -eq 1 ] && exit 17
 exit 18
@@ -55,13 +56,18 @@ calls() {
     [ $? -eq "$wanted" ]
 }
 
-# builds and is_kept: a call does its work, after a build of the program, or without one.
+# works: a call does its work in the caller's folder.
+works() {
+    calls 17 rewrite && [ "$(cat said.out)" = "<rewrite> a line" ] && [ "$(cat "$program.folder")" = "$PWD" ]
+}
+
+# builds and is_kept: so it does, after a build of the program, or without one.
 builds() {
-    calls 17 rewrite && [ "$(cat "$folder/called")" = "$copy/crates/sw_cli run" ] && [ "$(cat said.out)" = "<rewrite> a line" ]
+    works && [ "$(cat "$folder/called")" = "$copy/crates/sw_cli run" ]
 }
 
 is_kept() {
-    calls 17 rewrite && [ ! -e "$folder/called" ] && [ "$(cat said.out)" = "<rewrite> a line" ] && [ ! -s said.err ]
+    works && [ ! -e "$folder/called" ] && [ ! -s said.err ]
 }
 
 # helps STATUS WORDS..: it ends so, and says its forms, where the README is, and what the program says.
