@@ -97,6 +97,13 @@ holds() {
     echo "$2" | cmp -s - "$1"
 }
 
+# is_cut FILE WHOLE: the file is a front of the whole one.
+is_cut() {
+    local size
+    size=$(wc -c <"$1")
+    [ "$size" -lt "$(wc -c <"$2")" ] && head -c "$size" "$2" | cmp -s - "$1"
+}
+
 faults() {
     run "$1"
     [ "$status" -ne 0 ] && [ ! -s "$1.out" ]
@@ -176,7 +183,7 @@ check "OUT past a limit on files: 121" limited 4 rewrite exit7 out map
 check "OUT past a limit on files: no map stored" [ ! -e map ]
 echo "an old OUT" >out
 check "OUT past a limit on files, where an older file is: 121" limited 4 rewrite exit7 out map
-check "OUT past a limit on files: the older file is lost" [ "$(head -c 10 out)" != "an old OUT" ]
+check "OUT past a limit on files: the older file is lost" is_cut out exit7.new
 mkfifo piped
 cat piped >received &
 check "MAP past a limit on files: 121" limited 0 rewrite exit7 piped map

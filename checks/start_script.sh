@@ -114,6 +114,7 @@ check "words with spaces: as they are" [ "$(cat said.out)" = "<rewrite a><><b  c
 ln -s "$copy/sw" link
 check "through a link" [ "$(./link rewrite <<<"a line")" = "<rewrite> a line" ]
 check "from its own folder, by sh" [ "$(cd "$copy" && sh sw rewrite <<<"a line")" = "<rewrite> a line" ]
+check "in a folder that was removed: nothing built" [ "$(mkdir gone && cd gone && rmdir ../gone && "$copy/sw" rewrite 2>/dev/null <<<"a line")" = "<rewrite> a line" ]
 
 for name in byte_lists/src/lib.rt image/specs/Lib.antt sw_cli/src/main.rt x86_meaning/proofs/Lib.antt x86_values/specs; do
     newer "crates/$name"
