@@ -11,3 +11,8 @@ pub mod SumRows
 pub mod LogicRows
 pub mod ExtensionRows
 pub mod ConditionRows
+pub mod Powers
+pub mod ShiftsWithin
+pub mod ShiftsLess
+pub mod DoubleShiftsLess
+pub mod ShiftRows
