@@ -1,13 +1,11 @@
 -- What a step looks at.
-use Rattle.std.proofs.Common.{◌≡◌, ℕ, ◌+◌, ◌<◌, Bool, true, false, List, [], ◌∷◌, ◌++◌, take, Option, Some, None, Result, Ok, Err, refl, ap, sym, ◌∙◌, subst}
-use Rattle.x86_values.specs.declared.byte.Byte.{Byte}
+use Rattle.std.proofs.Common.{◌≡◌, ℕ, ◌+◌, Bool, true, false, List, [], ◌∷◌, ◌++◌, Option, Some, None, Result, Ok, Err, refl, ap, ◌∙◌, subst}
 use Rattle.x86_values.specs.declared.word.Word.{Word}
 use Rattle.x86_values.specs.Words.{padded, known}
-use Rattle.traces.specs.Trace.{Label, Move, Stand, Go, Halt}
-use Rattle.outside.specs.Environment.{Environment}
-use Rattle.memory.specs.Memory.{Memory, wrapped, Stored, AccessKind, Load, Store, allows_all, SameIn, SameOutside, AreApart, put_all, store_all}
+use Rattle.traces.specs.Trace.{Label, Move}
+use Rattle.memory.specs.Memory.{Memory, wrapped, Stored, AccessKind, Load, Store, SameIn, SameOutside, AreApart, store_all}
 use Rattle.memory.specs.MemoryLaws.{MemoryLaws}
-use Rattle.memory.specs.CallLaws.{CallLaws, SameBuffer}
+use Rattle.memory.specs.CallLaws.{CallLaws}
 use Rattle.memory.specs.SystemCall.{Request, Called, Ends, Gives, system_call}
 use Rattle.x86_types.specs.declared.instr.Instr.{Instr}
 use Rattle.x86_meaning.specs.declared.stop.Stop.{Stop}

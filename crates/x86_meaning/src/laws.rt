@@ -10,8 +10,8 @@ ghost use Rattle.x86_meaning.specs.StepLaws.{StateLaws, StepLaws};
 use memory::{call_laws, less_specified_memory_laws, memory_laws};
 use traces::{States, move_laws, run_laws};
 use x86_values::{
-    condition_laws, division_laws, double_shift_laws, extension_laws, less_specified_laws, logic_laws,
-    product_laws, scan_laws, shift_laws, sum_laws, word_laws,
+    condition_laws, division_laws, double_shift_laws, extension_laws, less_specified_laws,
+    logic_laws, product_laws, scan_laws, shift_laws, sum_laws, word_laws,
 };
 
 /// Names the states of the machine.

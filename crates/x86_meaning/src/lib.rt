@@ -10,11 +10,11 @@ mod state;
 mod stop;
 
 pub use alu_rows::{worked_bits, worked_sums};
+pub use extension_rows::worked_extensions;
 pub use laws::{
     Meaning, access_laws, monotone_laws, program_laws, state_laws, step_laws, worked_calls,
     worked_moves,
 };
-pub use extension_rows::worked_extensions;
 pub use product_rows::worked_products;
 pub use shift_rows::worked_shifts;
 pub use state::Cpu;
