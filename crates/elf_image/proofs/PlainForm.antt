@@ -7,13 +7,14 @@ use Rattle.elf_image.specs.declared.header.ProgramHeader.{ProgramHeader}
 use Rattle.image.specs.declared.image.Segment.{Segment}
 use Rattle.image.specs.declared.image.Image.{Image}
 use Rattle.image.specs.declared.perm.Perm.{Perm}
-use Rattle.elf_image.specs.declared.refusal.Room.{Room}
-use Rattle.elf_image.specs.declared.refusal.Room.TheVariants.{Source, Any}
+use Rattle.image.specs.declared.room.Room.{Room}
+use Rattle.image.specs.declared.room.Room.TheVariants.{Source, Any}
 use Rattle.elf_image.specs.declared.refusal.Refusal.{Refusal}
 use Rattle.elf_image.specs.declared.refusal.Refusal.TheVariants.{Short, Magic, Class, Order, Version, Kind, Machine, HeaderSize, HeaderTable, Dynamic, SegmentFile, SegmentSize, SegmentAlign, Permission, Range, SharedPage, Entry, CodeSpan, ImageSize}
 use Rattle.elf_image.specs.Fields.{has_magic, e_type, e_machine, e_entry, e_phoff, e_phentsize, e_phnum, header_at, headers_from, headers_of}
 use Rattle.elf_image.specs.Pages.{window, first_page, page_bytes, end_page, file_end_page, is_segment}
-use Rattle.elf_image.specs.Refusals.{first, tests, segment_tests, segments_of, refusal_of, room_end, room_span, room_size, past_file, is_dynamic, is_too_small, is_out_of_room, any_shares_page, has_address, has_code, code_span, pages_size}
+use Rattle.elf_image.specs.Refusals.{first, tests, segment_tests, segments_of, refusal_of, past_file, is_dynamic, is_too_small, is_out_of_room, any_shares_page, has_address, has_code, code_span, pages_size}
+use Rattle.image.specs.Rooms.{room_end, room_span, room_size}
 use Rattle.elf_image.specs.Image.{image_of, image_if, segment_of}
 use Rattle.elf_image.specs.Plain.{is_plain, is_plain_text, is_plain_room, has_plain_header, text_segment, room_segment, PlainIsAccepted, PlainIsRead}
 

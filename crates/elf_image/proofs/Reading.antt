@@ -4,11 +4,12 @@ use Rattle.std.specs.List.{list_any}
 use Rattle.image.specs.declared.image.Image.{Image}
 use Rattle.image.specs.declared.image.Segment.{Segment}
 use Rattle.elf_image.specs.declared.header.ProgramHeader.{ProgramHeader}
-use Rattle.elf_image.specs.declared.refusal.Room.{Room}
+use Rattle.image.specs.declared.room.Room.{Room}
 use Rattle.elf_image.specs.declared.refusal.Refusal.{Refusal}
 use Rattle.elf_image.specs.declared.refusal.Refusal.TheVariants.{Dynamic, SegmentFile, SegmentSize, SegmentAlign, Permission, Range, SharedPage, Entry, CodeSpan, ImageSize}
 use Rattle.elf_image.specs.Fields.{e_entry, headers_of}
-use Rattle.elf_image.specs.Refusals.{first, header_tests, segment_tests, segments_of, refusal_of, is_dynamic, is_out_of_room, room_end, room_span, room_size, any_shares_page, has_address, has_code, code_span, pages_size}
+use Rattle.elf_image.specs.Refusals.{first, header_tests, segment_tests, segments_of, refusal_of, is_dynamic, is_out_of_room, any_shares_page, has_address, has_code, code_span, pages_size}
+use Rattle.image.specs.Rooms.{room_end, room_span, room_size}
 use Rattle.elf_image.specs.Image.{image_of, image_if, segment_of}
 use Rattle.elf_image.proofs.Rooms.{within_any}
 
@@ -84,6 +85,11 @@ all_in_room n at room hs none = within_any room hs (fifth _ _ _ _ (list_any (is_
 same_image : {ss ts : List Segment} {e f : ℕ} → ss ≡ ts → e ≡ f → image ss e ≡ image ts f
 same_image p q = cc
 
-pub image_is : (file : List ℕ) (room : Room) (hs : List ProgramHeader) (ss : List Segment) (at : ℕ) → image_of file room ≡ image_if file None → hs ≡ segments_of file
-    → ss ≡ map (segment_of file) hs → at ≡ e_entry file → image_of file room ≡ Ok (image ss at)
-image_is file room hs ss at e h s a = e ∙ ap Ok (same_image (sym (s ∙ ap (map (segment_of file)) h)) (sym a))
+-- the image of a file whose headers `hs` and segments `ls` passed their tests
+pub read_is : (file : List ℕ) (room : Room) (hs ls us : List ProgramHeader) (ss : List Segment) (at : ℕ) → first (header_tests file) ≡ None → hs ≡ headers_of file → list_any is_dynamic hs ≡ false
+    → ls ≡ segments_of file → first (segment_tests (length file) at room ls) ≡ None → us ≡ ls → ss ≡ map (segment_of file) us → at ≡ e_entry file → image_of file room ≡ Ok (image ss at)
+read_is file room hs ls us ss at e table d loaded passed used s a =
+    let none : list_any is_dynamic (headers_of file) ≡ false = ap (list_any is_dynamic) (sym table) ∙ d in
+    let same = ap (λ ks. first (segment_tests (length file) at room ks)) loaded in
+    let there = ap (λ x. first (segment_tests (length file) x room (segments_of file))) a in
+    accepted file room e none (sym there ∙ sym same ∙ passed) ∙ ap Ok (same_image (sym (s ∙ ap (map (segment_of file)) (used ∙ loaded))) (sym a))

@@ -3,9 +3,10 @@ use Rattle.std.proofs.Common.{◌≡◌, ℕ, suc, zero, ◌+◌, ◌<◌, ◌�
 use Rattle.std.proofs.lemmas.Bool.{or_parts, or_from, ltb-false, le-ltb}
 use Rattle.std.specs.List.{list_any}
 use Rattle.elf_image.specs.declared.header.ProgramHeader.{ProgramHeader}
-use Rattle.elf_image.specs.declared.refusal.Room.{Room}
-use Rattle.elf_image.specs.declared.refusal.Room.TheVariants.{Source, Any}
-use Rattle.elf_image.specs.Refusals.{is_out_of_room, room_end}
+use Rattle.image.specs.declared.room.Room.{Room}
+use Rattle.image.specs.declared.room.Room.TheVariants.{Source, Any}
+use Rattle.elf_image.specs.Refusals.{is_out_of_room}
+use Rattle.image.specs.Rooms.{room_end}
 
 ends_within : (end : ℕ) (h : ProgramHeader) → is_out_of_room end h ≡ false → h.p_vaddr + h.p_memsz ≤ end
 ends_within end h e = ltb-false end (h.p_vaddr + h.p_memsz) (or_parts _ _ e).1

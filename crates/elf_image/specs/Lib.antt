@@ -7,6 +7,7 @@ pub mod Names
 pub mod Image
 pub mod Plain
 pub mod Reads
+pub mod Laws
 pub mod Rows
 pub mod SegmentRows
 pub mod HeaderRows

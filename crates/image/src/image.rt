@@ -1,5 +1,6 @@
 // An image: segments of whole pages, and the entry.
-ghost use Rattle.std.specs.Prelude.{◌≡◌, length};
+ghost use Rattle.std.specs.Prelude.{◌≡◌};
+ghost use Rattle.image.specs.Wanted.{FitsWideRoom};
 
 use crate::Perm;
 use byte_lists::ByteList;
@@ -49,11 +50,30 @@ impl SegmentList {
     }
 }
 
-/// What a file puts into memory.
+/// What a file puts into memory. Every image is as the wide room wants it ([`Room::Any`](crate::Room)).
 #[derive(Debug, Drop)]
 pub struct Image {
     /// Its segments, in the order of their program headers.
     pub segments: SegmentList,
     /// The address at which the program begins to run.
     pub entry: u32,
+}
+
+impl Model for Image {
+    ghost use Rattle.image.specs.Contents.{Contents};
+
+    ghost Value = { Contents };
+
+    ghost use Rattle.image.specs.Wanted.{FitsWideRoom};
+
+    ghost view = { λ image. record { segments = image.segments; entry = image.entry } };
+
+    ghost invariant = { λ image. FitsWideRoom image.segments image.entry };
+}
+
+/// Does nothing: its clause says that an image is as the wide room wants it, whoever made it.
+pub fn fits_wide_room(image: &Image)
+    ensures { FitsWideRoom image.now.segments image.now.entry }
+{
+    let _ = &image.entry;
 }

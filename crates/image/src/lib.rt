@@ -5,10 +5,12 @@ mod address;
 mod image;
 mod laws;
 mod perm;
+mod room;
 #[cfg(test)]
 mod tests;
 
 pub use address::{byte_at, can_run};
-pub use image::{Image, Segment, SegmentList};
+pub use image::{Image, Segment, SegmentList, fits_wide_room};
 pub use laws::worked_addresses;
 pub use perm::Perm;
+pub use room::Room;
