@@ -19,8 +19,9 @@ use Rattle.elf_image.specs.Refusals.{shares_page, any_shares_page, has_code, has
 use Rattle.image.specs.Addresses.{holds}
 use Rattle.elf_image.specs.Image.{segment_of, image_if, image_of}
 use Rattle.image.specs.Wanted.{FitsWideRoom, HasItsPlace, segment_end, meets, NoneMeet, is_code, is_code_at, span_of_code}
+use Rattle.elf_image.specs.Sound.{IsSound}
 use Rattle.elf_image.specs.Laws.{AcceptedFits}
-use Rattle.elf_image.proofs.SoundHeaders.{IsSound, all_sound, filter_each, code_low, has_place}
+use Rattle.elf_image.proofs.SoundHeaders.{all_sound, filter_each, code_low, has_place}
 use Rattle.elf_image.proofs.Passed.{has_passed, passes_any}
 
 abbrev segments : List ℕ → List ProgramHeader → List Segment

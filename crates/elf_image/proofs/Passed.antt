@@ -1,5 +1,5 @@
 -- What the tests of an accepted file say of its segments, and that the wide room takes what the source room takes.
-use Rattle.std.proofs.Common.{◌≡◌, ℕ, ◌∙◌, ◌≤◌, Bool, true, false, cond, not, ltb, List, [], ◌∷◌, ◌++◌, length, filter, Option, Some, None, Ok, refl, ap, sym, arith}
+use Rattle.std.proofs.Common.{◌≡◌, ℕ, ◌∙◌, ◌≤◌, Bool, true, false, cond, not, ltb, List, [], ◌∷◌, ◌++◌, length, filter, Option, Some, None, Ok, refl, ap, sym, subst, arith}
 use Rattle.std.specs.List.{list_any, AllByRecursion}
 use Rattle.std.proofs.lemmas.Bool.{ltb-false, le-ltb}
 use Rattle.image.specs.declared.image.Image.{Image}
@@ -12,7 +12,10 @@ use Rattle.elf_image.specs.declared.refusal.Refusal.TheVariants.{Dynamic}
 use Rattle.elf_image.specs.Fields.{e_entry, headers_of}
 use Rattle.elf_image.specs.Refusals.{first, header_tests, segment_tests, segments_of, refusal_of, is_dynamic, past_file, is_too_small, is_misaligned, is_forbidden, is_out_of_room, any_shares_page, has_address, has_code, code_span, pages_size}
 use Rattle.elf_image.specs.Image.{image_of, image_if}
+use Rattle.elf_image.specs.Pages.{is_segment}
+use Rattle.elf_image.specs.Sound.{IsSound}
 use Rattle.elf_image.specs.Laws.{SourceIsAny}
+use Rattle.elf_image.proofs.SoundHeaders.{all_sound, filter_each}
 use Rattle.elf_image.proofs.Reading.{accepted}
 use Rattle.elf_image.proofs.Rooms.{within_any}
 
@@ -82,6 +85,12 @@ passes_any n at Source hs p =
       span = within_more (room_span Source) (room_span Any) (code_span hs) (omega arith) p.span;
       size = within_more (room_size Source) (room_size Any) (pages_size hs) (omega arith) p.size;
     }
+
+-- the headers that are segments are sound where no test of theirs holds
+pub passed_are_sound : (n at : ℕ) (room : Room) (hs ls : List ProgramHeader) → ls ≡ filter is_segment hs → first (segment_tests n at room ls) ≡ None → AllByRecursion IsSound ls
+passed_are_sound n at room hs ls is none =
+    let p = passes_any n at room ls (segments_pass n at room ls none) in
+    all_sound ls (subst (AllByRecursion (λ h. is_segment h ≡ true)) (sym is) (filter_each is_segment hs)) p.small p.forbidden p.range
 
 -- the three steps of the tests of an accepted file
 pub record HasPassed (file : List ℕ) (room : Room) : Type 0 where

@@ -1,5 +1,5 @@
 -- A header that passes the tests is that of a segment that has its place.
-use Rattle.std.proofs.Common.{◌≡◌, ℕ, ◌+◌, ◌-◌, ◌*◌, ◌%◌, ◌<◌, ◌≤◌, ◌==◌, ◌&&◌, Bool, true, false, cond, not, ltb, List, [], ◌∷◌, length, take, replicate, filter, refl, ap, ◌∙◌, arith, length-append}
+use Rattle.std.proofs.Common.{◌≡◌, ℕ, ◌+◌, ◌-◌, ◌*◌, ◌%◌, ◌<◌, ◌≤◌, ◌==◌, ◌&&◌, Bool, true, false, cond, not, ltb, List, [], ◌∷◌, length, take, replicate, filter, refl, ap, sym, subst, zero, suc, get_or, ◌∙◌, arith, length-append}
 use Rattle.std.specs.Prelude.{min}
 use Rattle.std.specs.List.{list_any, AllByRecursion}
 use Rattle.std.proofs.lemmas.List.{length-take, length-replicate}
@@ -11,6 +11,7 @@ use Rattle.image.specs.Addresses.{has}
 use Rattle.elf_image.specs.Pages.{is_segment, first_page, file_end_page, window, zeroed_from, page_bytes}
 use Rattle.image.specs.Rooms.{room_end}
 use Rattle.elf_image.specs.Refusals.{is_too_small, is_forbidden, is_out_of_room}
+use Rattle.elf_image.specs.Sound.{IsSound}
 use Rattle.elf_image.specs.Image.{segment_of}
 use Rattle.image.specs.Wanted.{HasItsPlace}
 use Rattle.elf_image.proofs.Windows.{length_window}
@@ -33,12 +34,6 @@ length_page_bytes file h =
     length_either (ltb h.p_filesz h.p_memsz && has h.p_flags 2) _ _ n (length_zeroed (h.p_vaddr % 4096 + h.p_filesz) n _ window_long) window_long
 
 -- ---- a header that passes
-pub record IsSound (h : ProgramHeader) : Type 0 where
-  pub segment : is_segment h ≡ true
-  pub small : is_too_small h ≡ false
-  pub forbidden : is_forbidden h ≡ false
-  pub room : is_out_of_room (room_end Any) h ≡ false
-
 pub all_sound : (hs : List ProgramHeader) → AllByRecursion (λ h. is_segment h ≡ true) hs → list_any is_too_small hs ≡ false → list_any is_forbidden hs ≡ false
     → list_any (is_out_of_room (room_end Any)) hs ≡ false → AllByRecursion IsSound hs
 all_sound [] each a b c = tt
@@ -55,6 +50,14 @@ filter_each test (h ∷ hs) = step (test h) refl (filter_each test hs)
     step : (b : Bool) → test h ≡ b → AllByRecursion (λ k. test k ≡ true) (filter test hs) → AllByRecursion (λ k. test k ≡ true) (cond b (h ∷ filter test hs) (filter test hs))
     step true e more = (e, more)
     step false e more = more
+
+pub sound_at : (hs : List ProgramHeader) (i : ℕ) (h : ProgramHeader) → AllByRecursion IsSound hs → i < length hs → h ≡ get_or hs i h → IsSound h
+sound_at hs i h each within is = subst IsSound (sym is) (at_place hs i h each within)
+  where
+    at_place : (hs : List ProgramHeader) (i : ℕ) (d : ProgramHeader) → AllByRecursion IsSound hs → i < length hs → IsSound (get_or hs i d)
+    at_place [] i d each within = absurd (omega arith)
+    at_place (h ∷ hs) zero d each within = each.0
+    at_place (h ∷ hs) (suc i) d each within = at_place hs i d each.1 (omega arith)
 
 -- ---- its segment
 has_low : (n : ℕ) → (has (n % 8) 1 ≡ has n 1) × (has (n % 8) 2 ≡ has n 2) × (has (n % 8) 4 ≡ has n 4)

@@ -3,6 +3,7 @@ pub mod Fields
 pub mod Overlaps
 pub mod Pages
 pub mod Refusals
+pub mod Sound
 pub mod Names
 pub mod Image
 pub mod Plain

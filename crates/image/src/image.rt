@@ -1,12 +1,13 @@
 // An image: segments of whole pages, and the entry.
 ghost use Rattle.std.specs.Prelude.{◌≡◌};
-ghost use Rattle.image.specs.Wanted.{FitsWideRoom};
+ghost use Rattle.image.specs.Wanted.{FitsWideRoom, HasItsPlace};
 
 use crate::Perm;
 use byte_lists::ByteList;
 use std::marker::Model;
 
-/// Pages that follow each other, and what may be done with them.
+/// Pages that follow each other, and what may be done with them. Every segment has its place in the wide room
+/// ([`Room::Any`](crate::Room)).
 #[derive(Debug, Drop)]
 pub struct Segment {
     /// The address of its first byte, a multiple of 4,096.
@@ -17,6 +18,18 @@ pub struct Segment {
     pub perm: Perm,
     /// The bytes of its first pages, in whole pages; every byte after them is 0.
     pub bytes: ByteList,
+}
+
+impl Model for Segment {
+    ghost use Rattle.image.specs.Contents.{SegmentContents};
+
+    ghost Value = { SegmentContents };
+
+    ghost use Rattle.image.specs.Wanted.{HasItsPlace};
+
+    ghost view = { λ s. record { start = s.start; size = s.size; perm = s.perm; bytes = s.bytes } };
+
+    ghost invariant = { λ s. HasItsPlace (record { start = s.start; size = s.size; perm = s.perm; bytes = s.bytes }) };
 }
 
 /// A list of segments. It is made from a `Vec` and gives it back, both without taking memory.
@@ -60,15 +73,22 @@ pub struct Image {
 }
 
 impl Model for Image {
-    ghost use Rattle.image.specs.Contents.{Contents};
+    ghost use Rattle.image.specs.Contents.{ImageContents};
 
-    ghost Value = { Contents };
+    ghost Value = { ImageContents };
 
     ghost use Rattle.image.specs.Wanted.{FitsWideRoom};
 
     ghost view = { λ image. record { segments = image.segments; entry = image.entry } };
 
     ghost invariant = { λ image. FitsWideRoom image.segments image.entry };
+}
+
+/// Does nothing: its clause says that a segment has its place, whoever made it.
+pub fn has_its_place(segment: &Segment)
+    ensures { HasItsPlace segment.now }
+{
+    let _ = &segment.start;
 }
 
 /// Does nothing: its clause says that an image is as the wide room wants it, whoever made it.

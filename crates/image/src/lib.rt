@@ -10,7 +10,7 @@ mod room;
 mod tests;
 
 pub use address::{byte_at, can_run};
-pub use image::{Image, Segment, SegmentList, fits_wide_room};
+pub use image::{Image, Segment, SegmentList, fits_wide_room, has_its_place};
 pub use laws::worked_addresses;
 pub use perm::Perm;
 pub use room::Room;
