@@ -15,7 +15,7 @@ use Rattle.elf_image.specs.Image.{segment_of, image_if, image_of}
 use Rattle.elf_writer.specs.Wanted.{CanBeWritten, image_with, run_span}
 use Rattle.elf_writer.specs.Written.{elf_header, headers_for, program_headers, header_count, table_bytes, data_of, table_end, data_start, written}
 use Rattle.elf_writer.proofs.HeaderFields.{HasHeader, length_elf_header, header_read, header_passes}
-use Rattle.elf_writer.proofs.Tables.{length_program_headers, length_whole_table, headers_read, program_headers_fit, among_segments, any_among_segments}
+use Rattle.elf_writer.proofs.Tables.{few_headers, length_program_headers, length_whole_table, headers_read, program_headers_fit, among_segments, any_among_segments}
 use Rattle.elf_writer.proofs.SegmentTests.{none_of, not_dynamic, not_too_small, not_misaligned, not_forbidden, not_out_of_room, none_past_file, all_segments, none_shares_page, entry_can_run, entry_within}
 use Rattle.elf_writer.proofs.Spans.{code_span_is, pages_size_is, data_within}
 use Rattle.elf_writer.proofs.SegmentBytes.{segments_again}
@@ -66,7 +66,7 @@ data_is_small ss at w =
 header_there : (ss : List Segment) (at : ℕ) → CanBeWritten ss at → HasHeader (written ss at) at (header_count (length ss))
 unfolding written
 header_there ss at w =
-    let few = w.few in
+    let few : header_count (length ss) ≤ 65535 = few_headers (length ss) w.few in
     let below : at < room_end Any = entry_within at ss w.each w.entered in
     let t : List ℕ = table_bytes (program_headers (data_start (length ss)) ss) in
     let z : List ℕ = zeros (data_start (length ss) - table_end (length ss)) in
@@ -78,7 +78,7 @@ headers_there ss at w =
     let file : List ℕ = written ss at in
     let start : ℕ = data_start (length ss) in
     let h = header_there ss at w in
-    let few = w.few in
+    let few : header_count (length ss) ≤ 65535 = few_headers (length ss) w.few in
     let small = data_is_small ss at w in
     ap (λ (i : ℕ). headers_from file i (e_phnum file)) h.table_is
     ∙ ap (headers_from file 52) (h.count_is ∙ sym (length_program_headers start ss))

@@ -1,6 +1,7 @@
 -- The program headers of a written table, read again.
-use Rattle.std.proofs.Common.{◌≡◌, ℕ, suc, ◌+◌, ◌*◌, ◌<◌, ◌||◌, Bool, true, false, cond, ltb, filter, append-nil, List, [], ◌∷◌, ◌++◌, length, drop, refl, ap, sym, ◌∙◌, get_or, append_assoc, arith, length-append}
+use Rattle.std.proofs.Common.{◌≡◌, ℕ, suc, ◌+◌, ◌*◌, ◌<◌, ◌≤◌, ◌||◌, Bool, true, false, cond, ltb, filter, append-nil, List, [], ◌∷◌, ◌++◌, length, drop, refl, ap, sym, ◌∙◌, get_or, append_assoc, arith, length-append}
 use Rattle.std.specs.List.{flat_map, list_any, AllByRecursion}
+use Rattle.std.proofs.lemmas.Bool.{ltb-true}
 use Rattle.std.proofs.lemmas.List.Folds.{list_any-append}
 use Rattle.std.proofs.lemmas.List.Elements.{filter-append}
 use Rattle.std.proofs.lemmas.List.{get_or-drop, drop-drop, drop_at}
@@ -22,6 +23,13 @@ length_headers offset (s ∷ ss) = ap suc (length_headers (offset + length s.byt
 
 pub length_program_headers : (offset : ℕ) (ss : List Segment) → length (program_headers offset ss) ≡ header_count (length ss)
 length_program_headers offset ss = length-append (headers_for offset ss) (stack_headers (length ss)) ∙ ap (λ (n : ℕ). n + length (stack_headers (length ss))) (length_headers offset ss)
+
+pub few_headers : (n : ℕ) → n ≤ 65535 → header_count n ≤ 65535
+few_headers n h = step (ltb n 65535) refl
+  where
+    step : (b : Bool) → ltb n 65535 ≡ b → n + length (cond b (stack_header ∷ []) []) ≤ 65535
+    step true e = omega (arith, ltb-true n 65535 e)
+    step false e = omega (arith, h)
 
 length_table : (hs : List ProgramHeader) → length (table_bytes hs) ≡ 32 * length hs
 length_table [] = refl
@@ -117,6 +125,7 @@ any_among_segments test hs count e = list_any-append test hs (stack_headers coun
     step : (b : Bool) → list_any test (cond b (stack_header ∷ []) []) ≡ false
     step true = rw e refl
     step false = refl
+
     or-false : (b : Bool) → (b || false) ≡ b
     or-false true = refl
     or-false false = refl

@@ -33,10 +33,10 @@ bytes_dropped (suc n) [] cs h = rw h refl
 bytes_dropped (suc n) (b ∷ bs) [] h = absurd h
 bytes_dropped (suc n) (b ∷ bs) (c ∷ cs) h = bytes_dropped n bs cs h.1
 
-bytes_joined : (as bs cs ds : List Byte) → BytesLessSpecified as bs → BytesLessSpecified cs ds → BytesLessSpecified (as ++ cs) (bs ++ ds)
+bytes_joined : (xs bs cs ds : List Byte) → BytesLessSpecified xs bs → BytesLessSpecified cs ds → BytesLessSpecified (xs ++ cs) (bs ++ ds)
 bytes_joined [] bs cs ds h k = rw h k
-bytes_joined (a ∷ as) [] cs ds h k = absurd h
-bytes_joined (a ∷ as) (b ∷ bs) cs ds h k = (h.0, bytes_joined as bs cs ds h.1 k)
+bytes_joined (x ∷ xs) [] cs ds h k = absurd h
+bytes_joined (x ∷ xs) (b ∷ bs) cs ds h k = (h.0, bytes_joined xs bs cs ds h.1 k)
 
 same_length : (bs cs : List Byte) → BytesLessSpecified bs cs → length bs ≡ length cs
 same_length [] cs h = rw h refl
@@ -70,7 +70,7 @@ padded_less (a ∷ b ∷ c ∷ d ∷ bs) (e ∷ f ∷ g ∷ i ∷ cs) h = record
 stores_joined : (xs ys us vs : List Stored) → StoresLessSpecified xs ys → StoresLessSpecified us vs → StoresLessSpecified (xs ++ us) (ys ++ vs)
 stores_joined [] ys us vs h k = rw h k
 stores_joined (x ∷ xs) [] us vs h k = absurd h
-stores_joined (x ∷ xs) (y ∷ ys) us vs h k = (h.0, (h.1.0, stores_joined xs ys us vs h.1.1 k))
+stores_joined (x ∷ xs) (y ∷ ys) us vs h k = (h.0, h.1, stores_joined xs ys us vs h.2 k)
 
 module _ (laws : ValueLaws) (memories : memory.LessSpecifiedLaws) where
   number_less : (a b : Option ℕ) → SameWhere a b → WordLessSpecified (word_if a) (word_if b)
@@ -88,10 +88,10 @@ module _ (laws : ValueLaws) (memories : memory.LessSpecifiedLaws) where
   values_less : (os ps : List Operand) (r q : Registers) (m n : Memory) → SameOperands os ps → RegistersLessSpecified r q → MemoryLessSpecified m n → WordsLessSpecified (values_in os r m) (values_in ps q n)
   values_less [] ps r q m n e h j = rw e refl
   values_less (o ∷ os) [] r q m n e h j = absurd e
-  values_less (o ∷ os) (p ∷ ps) r q m n e h j = (padded_less _ _ (sized o.size p.size e.0), values_less os ps r q m n e.1.1 h j)
+  values_less (o ∷ os) (p ∷ ps) r q m n e h j = (padded_less _ _ (sized o.size p.size e.0), values_less os ps r q m n e.2 h j)
     where
       sized : (a b : ℕ) → a ≡ b → BytesLessSpecified (bytes_in a o.location r m) (bytes_in b p.location q n)
-      sized a b s = rw s (bytes_less b o.location p.location r q m n e.1.0 h j)
+      sized a b s = rw s (bytes_less b o.location p.location r q m n e.1 h j)
 
   -- ---- what is written
   part_less : (i : ℕ) (bs cs : List Byte) (x u : Word) → BytesLessSpecified bs cs → WordLessSpecified x u → WordLessSpecified (with_bytes i bs x) (with_bytes i cs u)
@@ -104,7 +104,7 @@ module _ (laws : ValueLaws) (memories : memory.LessSpecifiedLaws) where
     stores = k.stores;
     way = k.way;
   }
-  written_less size (InMemory at) x u d e h k = record { cpu = k.cpu; stores = stores_joined _ _ _ _ k.stores (refl, (bytes_taken size _ _ (listed x u h), refl)); way = k.way }
+  written_less size (InMemory at) x u d e h k = record { cpu = k.cpu; stores = stores_joined _ _ _ _ k.stores (refl, bytes_taken size _ _ (listed x u h), refl); way = k.way }
   written_less size (Constant n) x u d e h k = k
 
   all_written_less : (os : List Operand) (xs us : List Word) (d e : Effect) → WordsLessSpecified xs us → EffectLessSpecified d e → EffectLessSpecified (all_written os xs d) (all_written os us e)

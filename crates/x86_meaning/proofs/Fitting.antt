@@ -1,10 +1,12 @@
 -- Each instruction computes a value for each operand that it writes.
-use Rattle.std.proofs.Common.{◌≡◌, ℕ, ◌≤◌, Bool, true, false, cond, List, [], ◌∷◌, Option, Some, None, Result, Ok, Err, refl, arith}
+use Rattle.std.proofs.Common.{◌≡◌, ℕ, ◌+◌, ◌≤◌, Bool, true, false, cond, List, [], ◌∷◌, Option, Some, None, Result, Ok, Err, refl, arith}
 use Rattle.x86_values.specs.declared.word.Word.{Word}
 use Rattle.x86_values.specs.declared.word.Flags.{Flags}
+use Rattle.x86_values.specs.declared.product.Product.{Product}
 use Rattle.x86_values.specs.declared.divided.Divided.{Divided}
 use Rattle.x86_values.specs.declared.divided.Divided.TheVariants as divided
-use Rattle.x86_values.specs.Words.{known}
+use Rattle.x86_values.specs.Words.{word_of, known}
+use Rattle.x86_values.specs.Products.{multiply}
 use Rattle.x86_values.specs.Conditions.{condition}
 use Rattle.memory.specs.Memory.{Memory}
 use Rattle.x86_types.specs.declared.instr.Instr.{Instr}
@@ -16,8 +18,8 @@ use Rattle.x86_types.specs.declared.width.Width.TheVariants.{One, Two, Four}
 use Rattle.x86_types.specs.Numbers.{size_of}
 use Rattle.x86_meaning.specs.Registers.{Registers, Naming}
 use Rattle.x86_meaning.specs.Operands.{Location, Operand, operand, field, value_in, values_in}
-use Rattle.x86_meaning.specs.Transfers.{Transfer, register, constant, word_at, accumulator, upper_accumulator, move_transfer, combine_transfer, compare_transfer, update_transfer, set_transfer, read_transfer, is_same_register, alu_reads, alu_writes, alu_transfer, multiply_transfer, divide_transfer, multiply_by_transfer, shift_transfer, double_shift_transfer, transfer}
-use Rattle.x86_meaning.specs.Computing.{Outcome, on_two, alu_computed, goes_to, quotient_and_remainder, jump_computed, compute}
+use Rattle.x86_meaning.specs.Transfers.{Transfer, esp, down, register, constant, word_at, accumulator, upper_accumulator, move_transfer, combine_transfer, compare_transfer, update_transfer, set_transfer, read_transfer, is_same_register, alu_reads, alu_writes, alu_transfer, multiply_transfer, divide_transfer, multiply_by_transfer, shift_transfer, double_shift_transfer, exchange_transfer, movs_transfer, stos_transfer, transfer}
+use Rattle.x86_meaning.specs.Computing.{Outcome, raised_by, lowered_by, on_two, alu_computed, both_halves, goes_to, quotient_and_remainder, jump_computed, compute}
 use Rattle.x86_meaning.proofs.TransferCases.{one, two, push, push_from, pop, pop_at, leave, movs, stos, string}
 
 -- as many values as operands, each operand of at most four bytes
@@ -77,6 +79,9 @@ upper_fits One a b = (omega arith, (omega arith, tt))
 upper_fits Two a b = (omega arith, (omega arith, tt))
 upper_fits Four a b = (omega arith, (omega arith, tt))
 
+halves_fit : (w : Width) (p : Product) → OutcomeFits (accumulator w ∷ upper_accumulator w ∷ []) (both_halves p)
+halves_fit w p = upper_fits w p.low p.high
+
 quotient_fits : (w : Width) (d : Divided) → OutcomeFits (accumulator w ∷ upper_accumulator w ∷ []) (quotient_and_remainder d)
 quotient_fits w (divided.Got q r) = upper_fits w q r
 quotient_fits w divided.Fault = tt
@@ -92,8 +97,8 @@ transfer_fits v (instr.Inc w to) n f regs m = one (λ t. TransferFits t (instr.I
 transfer_fits v (instr.Dec w to) n f regs m = one (λ t. TransferFits t (instr.Dec w to) n f regs m) tt (update_transfer (size_of w)) _ (λ a. (small w, tt))
 transfer_fits v (instr.Not w to) n f regs m = one (λ t. TransferFits t (instr.Not w to) n f regs m) tt (update_transfer (size_of w)) _ (λ a. (small w, tt))
 transfer_fits v (instr.Neg w to) n f regs m = one (λ t. TransferFits t (instr.Neg w to) n f regs m) tt (update_transfer (size_of w)) _ (λ a. (small w, tt))
-transfer_fits v (instr.Mul w from) n f regs m = one (λ t. TransferFits t (instr.Mul w from) n f regs m) tt (multiply_transfer w) _ (λ a. upper_fits w _ _)
-transfer_fits v (instr.ImulWide w from) n f regs m = one (λ t. TransferFits t (instr.ImulWide w from) n f regs m) tt (multiply_transfer w) _ (λ a. upper_fits w _ _)
+transfer_fits v (instr.Mul w from) n f regs m = one (λ t. TransferFits t (instr.Mul w from) n f regs m) tt (multiply_transfer w) _ (λ a. halves_fit w (multiply false (size_of w) (value_in (accumulator w) regs m) (value_in (operand (size_of w) a) regs m)))
+transfer_fits v (instr.ImulWide w from) n f regs m = one (λ t. TransferFits t (instr.ImulWide w from) n f regs m) tt (multiply_transfer w) _ (λ a. halves_fit w (multiply true (size_of w) (value_in (accumulator w) regs m) (value_in (operand (size_of w) a) regs m)))
 transfer_fits v (instr.Div w from) n f regs m = one (λ t. TransferFits t (instr.Div w from) n f regs m) tt (divide_transfer w) _ (λ a. quotient_fits w _)
 transfer_fits v (instr.Idiv w from) n f regs m = one (λ t. TransferFits t (instr.Idiv w from) n f regs m) tt (divide_transfer w) _ (λ a. quotient_fits w _)
 transfer_fits v (instr.Imul w to from) n f regs m = one (λ t. TransferFits t (instr.Imul w to from) n f regs m) tt (combine_transfer (size_of w) (field v w to)) _ (λ a. (small w, tt))
@@ -103,7 +108,7 @@ transfer_fits v (instr.Shld to from k) n f regs m = two (λ t. TransferFits t (i
 transfer_fits v (instr.Shrd to from k) n f regs m = two (λ t. TransferFits t (instr.Shrd to from k) n f regs m) tt (double_shift_transfer k) _ _ (λ a b. (four, tt))
 transfer_fits v (instr.Push from) n f regs m = push_from (λ t. TransferFits t (instr.Push from) n f regs m) tt _ _ (λ a at. (four, (four, tt)))
 transfer_fits v (instr.Pop to) n f regs m = pop_at (λ t. TransferFits t (instr.Pop to) n f regs m) tt _ _ (λ a at. (four, (four, tt)))
-transfer_fits v (instr.Xchg w to from) n f regs m = one (λ t. TransferFits t (instr.Xchg w to from) n f regs m) tt _ _ (λ a. (small w, (small w, tt)))
+transfer_fits v (instr.Xchg w to from) n f regs m = one (λ t. TransferFits t (instr.Xchg w to from) n f regs m) tt (exchange_transfer (size_of w) (field v w from)) _ (λ a. (small w, (small w, tt)))
 transfer_fits v (instr.Movzx wide w to from) n f regs m = one (λ t. TransferFits t (instr.Movzx wide w to from) n f regs m) tt (move_transfer (size_of wide) (size_of w) (field v wide to)) _ (λ a. (small wide, tt))
 transfer_fits v (instr.Movsx wide w to from) n f regs m = one (λ t. TransferFits t (instr.Movsx wide w to from) n f regs m) tt (move_transfer (size_of wide) (size_of w) (field v wide to)) _ (λ a. (small wide, tt))
 transfer_fits v (instr.Cmov c w to from) n f regs m = one (λ t. TransferFits t (instr.Cmov c w to from) n f regs m) tt (combine_transfer (size_of w) (field v w to)) _ (λ a. (small w, tt))
@@ -115,16 +120,16 @@ transfer_fits v (instr.Bsr w to from) n f regs m = one (λ t. TransferFits t (in
 transfer_fits v (instr.Bswap to) n f regs m = (four, tt)
 transfer_fits v (instr.Movs w repeat) n f regs m =
     let P : Option Transfer → Type 0 = λ t. TransferFits t (instr.Movs w repeat) n f regs m in
-    string P tt repeat _ _ (movs P tt (size_of w) [] _ _ (λ a b. (small w, (four, (four, tt))))) tt (movs P tt (size_of w) (register 4 1 ∷ []) _ _ (λ a b. (small w, (four, (four, (four, tt))))))
+    string P tt repeat _ (movs_transfer (size_of w) (known (regs 6)) (known (regs 7))) (movs P tt (size_of w) _ _ [] (λ a b. (small w, (four, (four, tt))))) tt (movs P tt (size_of w) _ _ (register 4 1 ∷ []) (λ a b. (small w, (four, (four, (four, tt))))))
 transfer_fits v (instr.Stos w repeat) n f regs m =
     let P : Option Transfer → Type 0 = λ t. TransferFits t (instr.Stos w repeat) n f regs m in
-    string P tt repeat _ _ (stos P tt w [] _ (λ a. (small w, (four, tt)))) tt (stos P tt w (register 4 1 ∷ []) _ (λ a. (small w, (four, (four, tt)))))
+    string P tt repeat _ (stos_transfer w (known (regs 7))) (stos P tt w _ [] (λ a. (small w, (four, tt)))) tt (stos P tt w _ (register 4 1 ∷ []) (λ a. (small w, (four, (four, tt)))))
 transfer_fits v (instr.Jmp by) n f regs m = tt
 transfer_fits v (instr.JmpTo to) n f regs m = one (λ t. TransferFits t (instr.JmpTo to) n f regs m) tt (read_transfer 4) _ (λ a. target_fits [] [] (known (value_in (operand 4 a) regs m)) f tt)
-transfer_fits v (instr.CallTo to) n f regs m = push_from (λ t. TransferFits t (instr.CallTo to) n f regs m) tt _ _ (λ a at. target_fits _ _ (known (value_in (operand 4 a) regs m)) f (four, (four, tt)))
+transfer_fits v (instr.CallTo to) n f regs m = push_from (λ t. TransferFits t (instr.CallTo to) n f regs m) tt _ _ (λ a at. target_fits (word_at (down 4 at) ∷ esp ∷ []) (word_of n ∷ lowered_by 4 (value_in esp regs m) ∷ []) (known (value_in (operand 4 a) regs m)) f (four, (four, tt)))
 transfer_fits v (instr.Jcc c by) n f regs m = jump_fits (condition c f) by f
 transfer_fits v (instr.Call by) n f regs m = push (λ t. TransferFits t (instr.Call by) n f regs m) tt [] _ (λ at. (four, (four, tt)))
-transfer_fits v (instr.Ret drop) n f regs m = pop (λ t. TransferFits t (instr.Ret drop) n f regs m) tt [] _ (λ at. target_fits _ _ (known (value_in (word_at at) regs m)) f (four, tt))
+transfer_fits v (instr.Ret drop) n f regs m = pop (λ t. TransferFits t (instr.Ret drop) n f regs m) tt [] _ (λ at. target_fits (esp ∷ []) (raised_by (4 + drop) (value_in esp regs m) ∷ []) (known (value_in (word_at at) regs m)) f (four, tt))
 transfer_fits v instr.Leave n f regs m = leave (λ t. TransferFits t instr.Leave n f regs m) tt _ (λ at. (four, (four, tt)))
 transfer_fits v instr.Int80 n f regs m = tt
 transfer_fits v instr.Cld n f regs m = tt

@@ -10,3 +10,4 @@ pub mod States
 pub mod Bytes
 pub mod Moves
 pub mod Rows
+pub mod AluRows

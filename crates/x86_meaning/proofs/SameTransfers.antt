@@ -1,5 +1,5 @@
 -- What an instruction reads and writes is the same where its registers are less specified, if it reads and writes at all.
-use Rattle.std.proofs.Common.{◌≡◌, ℕ, zero, suc, ◌+◌, ◌*◌, ◌%◌, ◌&&◌, Bool, true, false, cond, List, [], ◌∷◌, Option, Some, None, refl, ap, ◌∙◌}
+use Rattle.std.proofs.Common.{◌≡◌, ℕ, zero, suc, ◌+◌, ◌*◌, ◌%◌, ◌&&◌, Bool, true, false, cond, List, [], ◌∷◌, Option, Some, None, refl, ap, sym, subst}
 use Rattle.std.specs.Option.{option_map}
 use Rattle.x86_values.specs.declared.word.Word.{Word}
 use Rattle.x86_values.specs.Words.{word_of, known}
@@ -15,7 +15,7 @@ use Rattle.x86_types.specs.declared.operand.Src.TheVariants as src
 use Rattle.x86_types.specs.declared.instr.Instr.{Instr}
 use Rattle.x86_types.specs.declared.instr.Instr.TheVariants as instr
 use Rattle.x86_types.specs.declared.width.Width.{Width}
-use Rattle.x86_types.specs.declared.width.Width.TheVariants.{Four}
+use Rattle.x86_types.specs.declared.width.Width.TheVariants.{One, Four}
 use Rattle.x86_types.specs.Numbers.{size_of}
 use Rattle.x86_meaning.specs.Registers.{Registers, Naming, with_register}
 use Rattle.x86_meaning.specs.Operands.{Location, InRegister, InMemory, Constant, Operand, operand, field, address_part, address_sum, effective_address, location_of, source_of}
@@ -51,7 +51,7 @@ SameOperands (o ∷ os) (p ∷ ps) = (o.size ≡ p.size) × SameLocation o.locat
 
 operands_themselves : (os : List Operand) → SameOperands os os
 operands_themselves [] = refl
-operands_themselves (o ∷ os) = (refl, (location_itself o.location, operands_themselves os))
+operands_themselves (o ∷ os) = (refl, location_itself o.location, operands_themselves os)
 
 abbrev pub SameTransfer : Option Transfer → Option Transfer → Type 0
 SameTransfer None u = Unit {0}
@@ -61,10 +61,9 @@ SameTransfer (Some t) (Some u) = SameOperands t.reads u.reads × (t.writes ≡ u
 same_transfer : (o u : Option Transfer) → SameWhere o u → SameTransfer o u
 same_transfer None u h = tt
 same_transfer (Some t) None h = absurd cc
-same_transfer (Some t) (Some u) h = let e : u ≡ t = cc in go u e
-  where
-    go : (u : Transfer) → u ≡ t → SameOperands t.reads u.reads × (t.writes ≡ u.writes)
-    go u refl = (operands_themselves t.reads, refl)
+same_transfer (Some t) (Some u) h =
+    let e : u ≡ t = cc in
+    subst (λ (x : Transfer). SameOperands t.reads x.reads × (t.writes ≡ x.writes)) (sym e) (operands_themselves t.reads, refl)
 
 -- ---- the shapes
 one_same : (g : Location → Transfer) (o u : Option Location) → SameWhere o u → SameWhere (by_one g o) (by_one g u)
@@ -98,14 +97,14 @@ leave_same : (d e : Option ℕ) → SameWhere d e → SameWhere (leave_transfer 
 leave_same None e h = tt
 leave_same (Some at) e h = ap leave_transfer h
 
-movs_same : (size : ℕ) (more : List Operand) (a b c d : Option ℕ) → SameWhere a b → SameWhere c d → SameWhere (movs_transfer size more a c) (movs_transfer size more b d)
-movs_same size more None b c d h k = tt
-movs_same size more (Some n) b None d h k = tt
-movs_same size more (Some n) b (Some m) d h k = rw (h, k) refl
+movs_same : (size : ℕ) (a b c d : Option ℕ) (more : List Operand) → SameWhere a b → SameWhere c d → SameWhere (movs_transfer size a c more) (movs_transfer size b d more)
+movs_same size None b c d more h k = tt
+movs_same size (Some n) b None d more h k = tt
+movs_same size (Some n) b (Some m) d more h k = rw (h, k) refl
 
-stos_same : (w : Width) (more : List Operand) (d e : Option ℕ) → SameWhere d e → SameWhere (stos_transfer w more d) (stos_transfer w more e)
-stos_same w more None e h = tt
-stos_same w more (Some at) e h = ap (stos_transfer w more) h
+stos_same : (w : Width) (d e : Option ℕ) (more : List Operand) → SameWhere d e → SameWhere (stos_transfer w d more) (stos_transfer w e more)
+stos_same w None e more h = tt
+stos_same w (Some at) e more h = rw h refl
 
 counted_same : (c d : Option ℕ) (t u : Option Transfer) → SameWhere c d → SameWhere t u → SameWhere (if_counted c t) (if_counted d u)
 counted_same None d t u h k = tt
@@ -186,7 +185,7 @@ module _ (less : LessSpecifiedLaws) (words : WordLaws) where
     transfer_same (instr.Alu op w to from) = same_transfer _ _ (two_same _ _ _ _ _ (location_same v r q w to h) (source_same v r q w from h))
     transfer_same (instr.Test w to from) = same_transfer _ _ (two_same _ _ _ _ _ (location_same v r q w to h) (source_same v r q w from h))
     transfer_same (instr.Mov w to from) = same_transfer _ _ (two_same _ _ _ _ _ (location_same v r q w to h) (source_same v r q w from h))
-    transfer_same (instr.Lea w to at) = ((refl, (address_same v r q at h, refl)), refl)
+    transfer_same (instr.Lea w to at) = ((refl, address_same v r q at h, refl), refl)
     transfer_same (instr.Inc w to) = by_rm _ w to
     transfer_same (instr.Dec w to) = by_rm _ w to
     transfer_same (instr.Not w to) = by_rm _ w to
@@ -206,21 +205,21 @@ module _ (less : LessSpecifiedLaws) (words : WordLaws) where
     transfer_same (instr.Movzx wide w to from) = by_rm _ w from
     transfer_same (instr.Movsx wide w to from) = by_rm _ w from
     transfer_same (instr.Cmov c w to from) = by_rm _ w from
-    transfer_same (instr.Setcc c to) = by_rm _ _ to
-    transfer_same (instr.Extend w) = same_transfer _ _ refl
-    transfer_same (instr.Spread w) = same_transfer _ _ refl
+    transfer_same (instr.Setcc c to) = by_rm _ One to
+    transfer_same (instr.Extend w) = ((refl, refl, refl), refl)
+    transfer_same (instr.Spread w) = ((refl, refl, refl), refl)
     transfer_same (instr.Bsf w to from) = by_rm _ w from
     transfer_same (instr.Bsr w to from) = by_rm _ w from
-    transfer_same (instr.Bswap to) = same_transfer _ _ refl
-    transfer_same (instr.Movs w repeat) = same_transfer _ _ (string_same repeat _ _ _ _ (reg_same 1) (λ more. movs_same (size_of w) more _ _ _ _ (reg_same 6) (reg_same 7)))
-    transfer_same (instr.Stos w repeat) = same_transfer _ _ (string_same repeat _ _ _ _ (reg_same 1) (λ more. stos_same w more _ _ (reg_same 7)))
-    transfer_same (instr.Jmp by) = same_transfer _ _ refl
+    transfer_same (instr.Bswap to) = ((refl, refl, refl), refl)
+    transfer_same (instr.Movs w repeat) = same_transfer _ _ (string_same repeat _ _ _ _ (reg_same 1) (λ more. movs_same (size_of w) _ _ _ _ more (reg_same 6) (reg_same 7)))
+    transfer_same (instr.Stos w repeat) = same_transfer _ _ (string_same repeat _ _ _ _ (reg_same 1) (λ more. stos_same w _ _ more (reg_same 7)))
+    transfer_same (instr.Jmp by) = (refl, refl)
     transfer_same (instr.JmpTo to) = by_rm _ Four to
     transfer_same (instr.CallTo to) = same_transfer _ _ (push_of_same _ _ _ _ (location_same v r q Four to h) (reg_same 4))
-    transfer_same (instr.Jcc c by) = same_transfer _ _ refl
+    transfer_same (instr.Jcc c by) = (refl, refl)
     transfer_same (instr.Call by) = same_transfer _ _ (push_same [] _ _ (reg_same 4))
     transfer_same (instr.Ret drop) = same_transfer _ _ (pop_same [] _ _ (reg_same 4))
     transfer_same instr.Leave = same_transfer _ _ (leave_same _ _ (reg_same 5))
-    transfer_same instr.Int80 = same_transfer _ _ refl
-    transfer_same instr.Cld = same_transfer _ _ refl
-    transfer_same instr.Nop = same_transfer _ _ refl
+    transfer_same instr.Int80 = (refl, refl)
+    transfer_same instr.Cld = (refl, refl)
+    transfer_same instr.Nop = (refl, refl)

@@ -1,11 +1,12 @@
 -- A step is monotone in what is specified.
-use Rattle.std.proofs.Common.{◌≡◌, ℕ, ◌+◌, Bool, true, false, List, [], ◌∷◌, All, Option, Some, None, Result, Ok, Err, refl, sym}
+use Rattle.std.proofs.Common.{◌≡◌, ℕ, ◌+◌, Bool, true, false, List, [], ◌∷◌, All, Option, Some, None, Result, Ok, Err, refl, sym, subst}
 use Rattle.std.proofs.lemmas.List.Elements.{All-head, All-tail}
 use Rattle.x86_values.specs.declared.byte.Byte.{Byte}
 use Rattle.x86_values.specs.declared.byte.Byte.TheVariants.{Known}
 use Rattle.x86_values.specs.declared.byte.Byte.TheVariants as byte
 use Rattle.x86_values.specs.Words.{IsByte, word_of, known}
 use Rattle.x86_values.specs.LessSpecified.{BytesLessSpecified}
+use Rattle.outside.specs.Environment.{Environment}
 use Rattle.traces.specs.Trace.{Label, End, Exited, OtherCall, Outside, Guard, Stopped, Move, Stand, Go, Halt}
 use Rattle.traces.specs.Trace as trace
 use Rattle.memory.specs.Memory.{Memory, Stored, AccessKind, Load, Store, allows_all, wrapped}
@@ -39,7 +40,7 @@ access_same kind size (Constant a) (InMemory at) xs ys h e = absurd h
 accesses_same : (kind : AccessKind) (os ps : List Operand) → SameOperands os ps → accesses_of kind os ≡ accesses_of kind ps
 accesses_same kind [] ps h = rw h refl
 accesses_same kind (o ∷ os) [] h = absurd h
-accesses_same kind (o ∷ os) (p ∷ ps) h = rw h.0 (access_same kind p.size o.location p.location _ _ h.1.0 (accesses_same kind os ps h.1.1))
+accesses_same kind (o ∷ os) (p ∷ ps) h = rw h.0 (access_same kind p.size o.location p.location _ _ h.1 (accesses_same kind os ps h.2))
 
 -- ---- ends
 same_end : (e : End) (m : Move State) → m ≡ Halt [] e → MoveLessSpecified (Halt [] e) m
@@ -89,7 +90,7 @@ module _ (laws : ValueLaws) (memories : memory.LessSpecifiedLaws) where
   stores_themselves [] h = refl
   stores_themselves (x ∷ xs) h =
       let P : Stored → Type 0 = λ (s : Stored). All IsByte s.bytes in
-      (refl, (bytes_themselves x.bytes (All-head P x xs h), stores_themselves xs (All-tail P x xs h)))
+      (refl, bytes_themselves x.bytes (All-head P x xs h), stores_themselves xs (All-tail P x xs h))
 
   result_less : (result : ℕ) (p q : Processor) → ProcessorLessSpecified p q → ProcessorLessSpecified (with_result result p) (with_result result q)
   result_less result p q h = record { regs = set_less laws.less laws.words 0 _ _ _ _ (laws.less.itself (word_of result) (laws.words.word_of_bytes result)) h.regs; flags = h.flags }
@@ -112,7 +113,7 @@ module _ (laws : ValueLaws) (memories : memory.LessSpecifiedLaws) where
   module _ (calls : CallLaws) where
     call_less : (s t : State) → StateLessSpecified s t → MoveLessSpecified (after_call (system_call (request_of s.cpu) s.memory s.left) s) (after_call (system_call (request_of t.cpu) t.memory t.left) t)
     call_less s t h =
-        rw (sym h.left)
+        subst (λ (l : Environment). MoveLessSpecified (after_call (system_call (request_of s.cpu) s.memory s.left) s) (after_call (system_call (request_of t.cpu) t.memory l) t)) h.left
         (called_less (system_call (request_of s.cpu) s.memory s.left) (system_call (request_of t.cpu) t.memory s.left) s t (calls.keep_environment (request_of s.cpu) s.memory s.left h.environment)
         (memories.call (request_of s.cpu) (request_of t.cpu) s.memory t.memory s.left (record { number = h.cpu.regs 0; fd = h.cpu.regs 3; at = h.cpu.regs 1; count = h.cpu.regs 2 }) h.memory) h)
 
@@ -163,7 +164,7 @@ module _ (laws : ValueLaws) (memories : memory.LessSpecifiedLaws) where
 
     pub step_less : (code : Code) (s t : State) → StateLessSpecified s t → MoveLessSpecified (next code s) (next code t)
     unfolding next
-    step_less code s t h = let e = h.eip in rw e (go (code t.eip))
+    step_less code s t h = subst (λ (a : ℕ). MoveLessSpecified (step_at (code s.eip) s) (step_at (code a) t)) h.eip (go (code s.eip))
       where
         go : (o : Option (Instr × ℕ)) → MoveLessSpecified (step_at o s) (step_at o t)
         go None = refl

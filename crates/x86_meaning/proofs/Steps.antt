@@ -1,11 +1,11 @@
 -- The equations of steps, and the stores of effects.
-use Rattle.std.proofs.Common.{◌≡◌, ◌≢◌, ℕ, ◌+◌, ◌≤◌, ◌==◌, List, [], ◌∷◌, ◌++◌, map, length, take, Option, Some, None, Result, Ok, Err, refl, ap, sym, ◌∙◌, append_assoc, append-nil, arith, map-append}
-use Rattle.std.proofs.lemmas.List.{length-take}
+use Rattle.std.proofs.Common.{◌≡◌, ◌≢◌, ℕ, ◌+◌, ◌≤◌, ◌==◌, List, [], ◌∷◌, ◌++◌, map, length, take, Option, Some, None, Result, Ok, Err, refl, ap, sym, ◌∙◌, append_assoc, append-nil, arith}
+use Rattle.std.proofs.lemmas.List.{length-take, map-append}
 use Rattle.std.proofs.lemmas.Bool.{eq-eqb, ne_eqb, cond-true, cond-false}
 use Rattle.x86_values.specs.declared.word.Word.{Word}
 use Rattle.x86_values.specs.Words.{word_list}
 use Rattle.traces.specs.Trace.{Stand, Outside}
-use Rattle.memory.specs.Memory.{Memory, Load, Store}
+use Rattle.memory.specs.Memory.{Memory, AccessKind, Load, Store}
 use Rattle.memory.specs.SystemCall.{system_call}
 use Rattle.x86_types.specs.declared.operand.Reg.{Reg}
 use Rattle.x86_types.specs.declared.operand.Rm.TheVariants as rm
@@ -56,29 +56,35 @@ set_elsewhere n w regs k h = cond-false (k == n) w (regs k) (ne_eqb k n h)
 stored_size : (n : ℕ) (x : Word) → n ≤ 4 → length (take n (word_list x)) ≡ n
 stored_size n x h = length-take n (word_list x) ∙ omega (arith, h)
 
+load_ranges : (size : ℕ) (l : Location) (more : List Access) → store_ranges (access Load size l more) ≡ store_ranges more
+load_ranges size (InRegister p i) more = refl
+load_ranges size (InMemory at) more = refl
+load_ranges size (Constant n) more = refl
+
+joined_access : (kind : AccessKind) (size : ℕ) (l : Location) (more rest : List Access) → access kind size l more ++ rest ≡ access kind size l (more ++ rest)
+joined_access kind size (InRegister p i) more rest = refl
+joined_access kind size (InMemory at) more rest = refl
+joined_access kind size (Constant n) more rest = refl
+
 no_stores : (os : List Operand) (more : List Access) → store_ranges (accesses_of Load os ++ more) ≡ store_ranges more
 no_stores [] more = refl
-no_stores (o ∷ os) more = go o.location
-  where
-    go : (l : Location) → store_ranges (access Load o.size l (accesses_of Load os) ++ more) ≡ store_ranges more
-    go (InRegister p i) = no_stores os more
-    go (InMemory at) = no_stores os more
-    go (Constant n) = no_stores os more
+no_stores (o ∷ os) more =
+    ap store_ranges (joined_access Load o.size o.location (accesses_of Load os) more) ∙ load_ranges o.size o.location (accesses_of Load os ++ more) ∙ no_stores os more
+
+-- the ranges of an operand that is written
+written_ranges : (size : ℕ) (l : Location) (w : Word) (e : Effect) (more : List Access) → size ≤ 4 → map stored_range (written size l w e).stores ++ store_ranges more ≡ map stored_range e.stores ++ store_ranges (access Store size l more)
+written_ranges size (InRegister p i) w e more h = refl
+written_ranges size (InMemory at) w e more h =
+    ap (λ (rs : List (ℕ × ℕ)). rs ++ store_ranges more) (map-append stored_range e.stores (record { at = at; bytes = take size (word_list w) } ∷ []))
+    ∙ append_assoc (map stored_range e.stores) ((at, length (take size (word_list w))) ∷ []) (store_ranges more)
+    ∙ ap (λ (n : ℕ). map stored_range e.stores ++ (at, n) ∷ store_ranges more) (stored_size size w h)
+written_ranges size (Constant n) w e more h = refl
 
 written_stores : (os : List Operand) (ws : List Word) (e : Effect) → Fits os ws → map stored_range (all_written os ws e).stores ≡ map stored_range e.stores ++ store_ranges (accesses_of Store os)
 written_stores [] [] e h = sym (append-nil (map stored_range e.stores))
 written_stores [] (w ∷ ws) e h = absurd h
 written_stores (o ∷ os) [] e h = absurd h
-written_stores (o ∷ os) (w ∷ ws) e h = go o.location
-  where
-    go : (l : Location) → map stored_range (all_written os ws (written o.size l w e)).stores ≡ map stored_range e.stores ++ store_ranges (access Store o.size l (accesses_of Store os))
-    go (InRegister p i) = written_stores os ws (written o.size (InRegister p i) w e) h.1
-    go (InMemory at) =
-        written_stores os ws (written o.size (InMemory at) w e) h.1
-        ∙ ap (λ (rs : List (ℕ × ℕ)). rs ++ store_ranges (accesses_of Store os)) (map-append stored_range e.stores (record { at = at; bytes = take o.size (word_list w) } ∷ []))
-        ∙ append_assoc (map stored_range e.stores) ((at, length (take o.size (word_list w))) ∷ []) (store_ranges (accesses_of Store os))
-        ∙ ap (λ (n : ℕ). map stored_range e.stores ++ (at, n) ∷ store_ranges (accesses_of Store os)) (stored_size o.size w h.0)
-    go (Constant n) = written_stores os ws e h.1
+written_stores (o ∷ os) (w ∷ ws) e h = written_stores os ws (written o.size o.location w e) h.1 ∙ written_ranges o.size o.location w e (accesses_of Store os) h.0
 
 outcome_stores : (t : Transfer) (regs : Registers) (r : Outcome) (e : Effect) → OutcomeFits t.writes r → effect_of t.writes regs r ≡ Ok e → map stored_range e.stores ≡ store_ranges (transfer_accesses (Some t))
 outcome_stores t regs (Err x) e h k = absurd cc

@@ -35,14 +35,14 @@ module _ (P : Option Transfer → Type 0) (none : P None) where
   leave None h = none
   leave (Some at) h = h at
 
-  pub movs : (size : ℕ) (more : List Operand) (from to : Option ℕ) → ((a b : ℕ) → P (Some (transfer_of (operand size (InMemory a) ∷ register 4 6 ∷ register 4 7 ∷ more) (operand size (InMemory b) ∷ register 4 6 ∷ register 4 7 ∷ more)))) → P (movs_transfer size more from to)
-  movs size more None to h = none
-  movs size more (Some a) None h = none
-  movs size more (Some a) (Some b) h = h a b
+  pub movs : (size : ℕ) (from to : Option ℕ) (more : List Operand) → ((a b : ℕ) → P (Some (transfer_of (operand size (InMemory a) ∷ register 4 6 ∷ register 4 7 ∷ more) (operand size (InMemory b) ∷ register 4 6 ∷ register 4 7 ∷ more)))) → P (movs_transfer size from to more)
+  movs size None to more h = none
+  movs size (Some a) None more h = none
+  movs size (Some a) (Some b) more h = h a b
 
-  pub stos : (w : Width) (more : List Operand) (to : Option ℕ) → ((a : ℕ) → P (Some (transfer_of (accumulator w ∷ register 4 7 ∷ more) (operand (size_of w) (InMemory a) ∷ register 4 7 ∷ more)))) → P (stos_transfer w more to)
-  stos w more None h = none
-  stos w more (Some a) h = h a
+  pub stos : (w : Width) (to : Option ℕ) (more : List Operand) → ((a : ℕ) → P (Some (transfer_of (accumulator w ∷ register 4 7 ∷ more) (operand (size_of w) (InMemory a) ∷ register 4 7 ∷ more)))) → P (stos_transfer w to more)
+  stos w None more h = none
+  stos w (Some a) more h = h a
 
   counted : (n : Option ℕ) (t : Option Transfer) → P no_transfer → P t → P (if_counted n t)
   counted None t z h = none
@@ -51,5 +51,5 @@ module _ (P : Option Transfer → Type 0) (none : P None) where
 
   -- a string instruction, without a repeat and with one
   pub string : (repeat : Bool) (n : Option ℕ) (g : List Operand → Option Transfer) → P (g []) → P no_transfer → P (g (register 4 1 ∷ [])) → P (string_transfer repeat n g)
-  string false n g once zero more = once
-  string true n g once zero more = counted n (g (register 4 1 ∷ [])) zero more
+  string false n g once done more = once
+  string true n g once done more = counted n (g (register 4 1 ∷ [])) done more

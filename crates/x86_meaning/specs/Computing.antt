@@ -167,7 +167,10 @@ call_to_computed next f e x = goes_to (word_of next ∷ lowered_by 4 e ∷ []) (
 abbrev pub ret_computed : ℕ → Flags → Word → Word → Outcome
 ret_computed drop f e x = goes_to (raised_by (4 + drop) e ∷ []) (known x) f
 
--- ---- moves
+-- ---- moves and jumps
+abbrev pub jump_to_computed : Flags → Word → Outcome
+jump_to_computed f x = goes_to [] (known x) f
+
 abbrev pub move_computed : Flags → Word → Outcome
 move_computed f x = values_alone (x ∷ []) f
 
@@ -179,6 +182,9 @@ extend_computed wide size f x = values_alone (cut wide (sign_extended size x) �
 
 abbrev pub spread_computed : ℕ → Flags → Word → Outcome
 spread_computed size f x = values_alone (sign_word size x ∷ []) f
+
+abbrev pub scan_computed : Bool → ℕ → Word → Outcome
+scan_computed reverse size x = value_and_flags (scan reverse size x)
 
 abbrev pub swap_computed : Flags → Word → Outcome
 swap_computed f x = values_alone (bytes_swapped x ∷ []) f
@@ -242,13 +248,13 @@ compute (instr.Cmov c w to from) next f xs = on_two (cmov_computed (size_of w) (
 compute (instr.Setcc c to) next f xs = set_computed (condition c f) f
 compute (instr.Extend w) next f xs = on_one (extend_computed (size_of w) (size_of w / 2) f) xs
 compute (instr.Spread w) next f xs = on_one (spread_computed (size_of w) f) xs
-compute (instr.Bsf w to from) next f xs = on_one (λ x. value_and_flags (scan false (size_of w) x)) xs
-compute (instr.Bsr w to from) next f xs = on_one (λ x. value_and_flags (scan true (size_of w) x)) xs
+compute (instr.Bsf w to from) next f xs = on_one (scan_computed false (size_of w)) xs
+compute (instr.Bsr w to from) next f xs = on_one (scan_computed true (size_of w)) xs
 compute (instr.Bswap to) next f xs = on_one (swap_computed f) xs
 compute (instr.Movs w repeat) next f xs = movs_computed (size_of w) f xs
 compute (instr.Stos w repeat) next f xs = stos_computed (size_of w) f xs
 compute (instr.Jmp by) next f xs = goes (JumpsBy by) f
-compute (instr.JmpTo to) next f xs = on_one (λ x. goes_to [] (known x) f) xs
+compute (instr.JmpTo to) next f xs = on_one (jump_to_computed f) xs
 compute (instr.CallTo to) next f xs = on_two (call_to_computed next f) xs
 compute (instr.Jcc c by) next f xs = jump_computed (condition c f) by f
 compute (instr.Call by) next f xs = on_one (call_computed by next f) xs

@@ -33,8 +33,8 @@ abbrev pub MoveLessSpecified : Move State → Move State → Type 0
 MoveLessSpecified (Go ls s) (Go ks t) = (ls ≡ ks) × StateLessSpecified s t
 MoveLessSpecified (Go ls s) (Stand ks e) = ⊥
 MoveLessSpecified (Go ls s) (Halt ks e) = ⊥
-MoveLessSpecified (Stand ls e) m = EndLessSpecified e (Stand {S = State} ls e) m
-MoveLessSpecified (Halt ls e) m = EndLessSpecified e (Halt {S = State} ls e) m
+MoveLessSpecified (Stand ls e) m = EndLessSpecified e (Stand ls e) m
+MoveLessSpecified (Halt ls e) m = EndLessSpecified e (Halt ls e) m
 
 -- so with effects
 pub record EffectLessSpecified (d e : Effect) : Type 0 where
@@ -50,7 +50,7 @@ StopLessSpecified DivideFault x y = x ≡ y
 abbrev pub ResultLessSpecified : Result Effect Stop → Result Effect Stop → Type 0
 ResultLessSpecified (Ok d) (Ok e) = EffectLessSpecified d e
 ResultLessSpecified (Ok d) (Err x) = ⊥
-ResultLessSpecified (Err x) r = StopLessSpecified x (Err {T = Effect} x) r
+ResultLessSpecified (Err x) r = StopLessSpecified x (Err x) r
 
 pub record MonotoneLaws : Type 0 where
   -- an effect is monotone, whatever the fields name

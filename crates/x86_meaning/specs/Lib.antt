@@ -12,3 +12,5 @@ pub mod RunLaws
 pub mod Rows
 pub mod CallRows
 pub mod MoveRows
+pub mod StepRows
+pub mod AluRows

@@ -133,7 +133,7 @@ double_shift_transfer n to from = transfer_of (operand 4 to ∷ operand 4 from �
 
 -- ---- both are read and written
 abbrev pub exchange_transfer : ℕ → Location → Location → Transfer
-exchange_transfer size left right = transfer_of (operand size left ∷ operand size right ∷ []) (operand size left ∷ operand size right ∷ [])
+exchange_transfer size right left = transfer_of (operand size left ∷ operand size right ∷ []) (operand size left ∷ operand size right ∷ [])
 
 -- ---- the stack; addresses wrap
 abbrev pub up : ℕ → ℕ → ℕ
@@ -171,14 +171,14 @@ leave_transfer None = None
 leave_transfer (Some at) = Some (transfer_of (register 4 5 ∷ word_at at ∷ []) (esp ∷ register 4 5 ∷ []))
 
 -- ---- strings: ESI is 6, EDI is 7, ECX is 1
-abbrev pub movs_transfer : ℕ → List Operand → Option ℕ → Option ℕ → Option Transfer
-movs_transfer size repeat (Some from) (Some to) =
+abbrev pub movs_transfer : ℕ → Option ℕ → Option ℕ → List Operand → Option Transfer
+movs_transfer size (Some from) (Some to) repeat =
     Some (transfer_of (operand size (InMemory from) ∷ register 4 6 ∷ register 4 7 ∷ repeat) (operand size (InMemory to) ∷ register 4 6 ∷ register 4 7 ∷ repeat))
-movs_transfer size repeat _ _ = None
+movs_transfer size _ _ repeat = None
 
-abbrev pub stos_transfer : Width → List Operand → Option ℕ → Option Transfer
-stos_transfer w repeat None = None
-stos_transfer w repeat (Some to) = Some (transfer_of (accumulator w ∷ register 4 7 ∷ repeat) (operand (size_of w) (InMemory to) ∷ register 4 7 ∷ repeat))
+abbrev pub stos_transfer : Width → Option ℕ → List Operand → Option Transfer
+stos_transfer w None repeat = None
+stos_transfer w (Some to) repeat = Some (transfer_of (accumulator w ∷ register 4 7 ∷ repeat) (operand (size_of w) (InMemory to) ∷ register 4 7 ∷ repeat))
 
 -- With a repeat the count is looked at first, and where it is 0 nothing else is.
 abbrev pub if_counted : Option ℕ → Option Transfer → Option Transfer
@@ -213,7 +213,7 @@ transfer v (instr.Shld to from n) regs = by_two (double_shift_transfer n) (locat
 transfer v (instr.Shrd to from n) regs = by_two (double_shift_transfer n) (location_of v regs Four to) (Some (field v Four from))
 transfer v (instr.Push from) regs = push_of (source_of v regs Four from) (known (regs 4))
 transfer v (instr.Pop to) regs = pop_to (location_of v (raised (known (regs 4)) regs) Four to) (known (regs 4))
-transfer v (instr.Xchg w to from) regs = by_one (λ l. exchange_transfer (size_of w) l (field v w from)) (location_of v regs w to)
+transfer v (instr.Xchg w to from) regs = by_one (exchange_transfer (size_of w) (field v w from)) (location_of v regs w to)
 transfer v (instr.Movzx wide w to from) regs = by_one (move_transfer (size_of wide) (size_of w) (field v wide to)) (location_of v regs w from)
 transfer v (instr.Movsx wide w to from) regs = by_one (move_transfer (size_of wide) (size_of w) (field v wide to)) (location_of v regs w from)
 transfer v (instr.Cmov c w to from) regs = by_one (combine_transfer (size_of w) (field v w to)) (location_of v regs w from)
@@ -223,8 +223,8 @@ transfer v (instr.Spread w) regs = Some (move_transfer (size_of w) (size_of w) (
 transfer v (instr.Bsf w to from) regs = by_one (move_transfer (size_of w) (size_of w) (field v w to)) (location_of v regs w from)
 transfer v (instr.Bsr w to from) regs = by_one (move_transfer (size_of w) (size_of w) (field v w to)) (location_of v regs w from)
 transfer v (instr.Bswap to) regs = Some (update_transfer 4 (field v Four to))
-transfer v (instr.Movs w repeat) regs = string_transfer repeat (known (regs 1)) (λ more. movs_transfer (size_of w) more (known (regs 6)) (known (regs 7)))
-transfer v (instr.Stos w repeat) regs = string_transfer repeat (known (regs 1)) (λ more. stos_transfer w more (known (regs 7)))
+transfer v (instr.Movs w repeat) regs = string_transfer repeat (known (regs 1)) (movs_transfer (size_of w) (known (regs 6)) (known (regs 7)))
+transfer v (instr.Stos w repeat) regs = string_transfer repeat (known (regs 1)) (stos_transfer w (known (regs 7)))
 transfer v (instr.Jmp by) regs = no_transfer
 transfer v (instr.JmpTo to) regs = by_one (read_transfer 4) (location_of v regs Four to)
 transfer v (instr.CallTo to) regs = push_of (location_of v regs Four to) (known (regs 4))

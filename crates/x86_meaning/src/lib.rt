@@ -5,6 +5,6 @@ mod laws;
 mod state;
 mod stop;
 
-pub use laws::{Meaning, monotone_laws, program_laws, state_laws, step_laws, worked_calls, worked_moves};
+pub use laws::{Meaning, program_laws, step_laws, worked_calls, worked_moves};
 pub use state::Cpu;
 pub use stop::Stop;

@@ -1,5 +1,6 @@
 -- Words that are less specified than others.
 use Rattle.std.proofs.Common.{◌≡◌, ℕ, zero, suc, ◌+◌, ◌*◌, ◌<◌, ◌==◌, ◌||◌, Bool, true, false, cond, leb, Option, Some, None, refl, ap, sym, ◌∙◌, arith}
+use Rattle.std.proofs.lemmas.Bool.Decides.{nat_tests}
 use Rattle.x86_values.specs.declared.byte.Byte.{Byte}
 use Rattle.x86_values.specs.declared.byte.Byte.TheVariants.{Known, Unspecified}
 use Rattle.x86_values.specs.declared.word.Word.{Word}
@@ -69,13 +70,16 @@ known_small x y n h e = go x.b0 x.b1 x.b2 x.b3 h.b0 h.b1 h.b2 h.b3 e
     go (Known a) (Known b) (Known c) Unspecified p q r s e = absurd cc
 
 -- ---- the three sizes
+no_size : (n : ℕ) → 4 < n → IsSize n → ⊥
+no_size n more h = grind (arith, nat_tests)
+
 pub of_sizes : (P : ℕ → Type 0) (size : ℕ) → IsSize size → P 1 → P 2 → P 4 → P size
-of_sizes P 0 h one two four = absurd cc
-of_sizes P 1 h one two four = one
-of_sizes P 2 h one two four = two
-of_sizes P 3 h one two four = absurd cc
-of_sizes P 4 h one two four = four
-of_sizes P (suc (suc (suc (suc (suc n))))) h one two four = absurd cc
+of_sizes P zero h one two four = absurd cc
+of_sizes P (suc zero) h one two four = one
+of_sizes P (suc (suc zero)) h one two four = two
+of_sizes P (suc (suc (suc zero))) h one two four = absurd cc
+of_sizes P (suc (suc (suc (suc zero)))) h one two four = four
+of_sizes P (suc (suc (suc (suc (suc n))))) h one two four = absurd (no_size (suc (suc (suc (suc (suc n))))) (omega arith) h)
 
 small_one : (x : Byte) (n : ℕ) → IsByte x → known_bytes x (Known 0) (Known 0) (Known 0) ≡ Some n → n < 256
 small_one (Known a) n h e = let is : a + 0 + 0 + 0 ≡ n = cc in omega (arith, is, h)

@@ -1,4 +1,4 @@
-use Rattle.std.proofs.Common.{◌≡◌, length, ap, ◌∙◌, arith}
+use Rattle.std.proofs.Common.{◌≡◌, ◌+◌, ◌*◌, length, ap, ◌∙◌, arith}
 use Rattle.elf_image.specs.declared.refusal.Room.TheVariants.{Any}
 use Rattle.elf_image.specs.Image.{image_of}
 use Rattle.elf_writer.specs.Written.{data_of}
@@ -29,7 +29,7 @@ pub returns-clause-exact : goal.returns-clause-exact
 returns-clause-exact c =
     let h = c.next_multiple_of-start.ensures in
     pushed_file c.args.segments.now c.as_slice-segments.result.now c.args.entry c.header_count-headers.result c.next_multiple_of-start.result _ _ _ _ _ _ c.as_slice-segments.ensures
-    c.header_count-headers.ensures (start_is (length c.as_slice-segments.result.now) c.next_multiple_of-start.result h.lower_bound h.upper_bound h.multiple)
+    c.header_count-headers.ensures.count (start_is (52 + 32 * c.header_count-headers.result) c.next_multiple_of-start.result h.lower_bound h.upper_bound h.multiple)
     c.in_ok-out.ensures.items c.in_ok-push_elf_header.ensures c.in_ok-push_segment_headers.ensures c.in_ok-push_stack_header.ensures c.in_ok-push_zeros.ensures c.in_ok-push_data.ensures
 
 pub returns-clause-again : goal.returns-clause-again
