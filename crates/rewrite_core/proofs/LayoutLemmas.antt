@@ -2,7 +2,8 @@
 use Rattle.std.proofs.Common.{◌≡◌, ℕ, ◌+◌, ◌≤◌, ◌&&◌, Bool, true, false, ltb, List, length, refl, arith}
 use Rattle.std.proofs.lemmas.Bool.{lt-ltb}
 use Rattle.elf_image.specs.Plain.{room_segment}
-use Rattle.elf_writer.specs.Wanted.{HasItsPlace, runs_at, CanBeWritten}
+use Rattle.elf_writer.specs.Wanted.{CanBeWritten}
+use Rattle.image.specs.Wanted.{HasItsPlace, is_code_at}
 use Rattle.elf_writer.specs.Laws.{WrittenIsAccepted}
 use Rattle.rewrite_core.specs.Layout.{code_start, whole_pages, kept_segment, code_segment, new_image, NewFileIsAccepted}
 use Rattle.rewrite_core.proofs.CodeLemmas.{length_in_pages}

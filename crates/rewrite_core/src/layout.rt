@@ -1,6 +1,6 @@
 // The written file.
 ghost use Rattle.std.specs.Prelude.{◌≡◌, ◌≤◌, length, IfOk, Ok};
-ghost use Rattle.elf_image.specs.declared.refusal.Room.TheVariants.{Any};
+ghost use Rattle.image.specs.declared.room.Room.TheVariants.{Any};
 ghost use Rattle.elf_image.specs.Image.{image_of};
 ghost use Rattle.rewrite_core.specs.Layout.{in_pages, new_file, new_image};
 

@@ -1,6 +1,6 @@
 use Rattle.std.proofs.Common.{◌<◌, length, ap, ◌∙◌, sym, subst, arith, Ok}
 use Rattle.std.proofs.lemmas.List.Elements.{All-from_get_or}
-use Rattle.elf_image.specs.declared.refusal.Room.TheVariants.{Any, Source}
+use Rattle.image.specs.declared.room.Room.TheVariants.{Any, Source}
 use Rattle.elf_image.specs.Image.{image_of}
 use Rattle.rewrite_core.specs.Places.{IsLeftOut, IsLaid}
 use Rattle.rewrite_core.specs.Layout.{text_of, new_file, new_image}
