@@ -56,7 +56,7 @@ and_false : (b : Bool) → (b && false) ≡ false
 and_false true = refl
 and_false false = refl
 
-entry_held : (code : List ℕ) → 1 ≤ length code → runs_at code_start (code_segment code) ≡ true
+entry_held : (code : List ℕ) → 1 ≤ length code → is_code_at code_start (code_segment code) ≡ true
 entry_held code some = lt-ltb code_start (code_start + whole_pages (length code)) (omega (arith, some))
 
 new_can_be_written : (text code : List ℕ) → length text ≡ 4096 → 1 ≤ length code → length code ≤ 0x14000000 → CanBeWritten (new_image text code).segments code_start
@@ -65,11 +65,14 @@ new_can_be_written text code page some few =
     let end : ℕ = code_start + n in
     record {
       few = omega arith;
-      each = (kept_place text page, (room_place, (code_place code some few, tt)));
-      apart = ((refl, (and_false (ltb 0x08049000 end), tt)), ((and_false (ltb 0x0804A000 end), tt), (tt, tt)));
-      entered = rw (entry_held code some) refl;
-      span = omega (arith, few);
-      total = omega (arith, few);
+      fits =
+          record {
+            each = (kept_place text page, (room_place, (code_place code some few, tt)));
+            apart = ((refl, (and_false (ltb 0x08049000 end), tt)), ((and_false (ltb 0x0804A000 end), tt), (tt, tt)));
+            entered = rw (entry_held code some) refl;
+            span = omega (arith, few);
+            total = omega (arith, few);
+          };
     }
 
 pub new_file_accepted : WrittenIsAccepted → NewFileIsAccepted

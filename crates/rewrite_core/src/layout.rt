@@ -26,6 +26,7 @@ fn in_pages(code: Vec<u8>) -> Result<Vec<u8>, AllocError>
 /// The segments of the new image: the old page of code, which can't be run, a page of zeros, and the new code.
 fn new_segments(alloc: Global, text: &[u8], code: Vec<u8>) -> Result<SegmentList, AllocError>
     requires page { length text.now ≡ 4096 }
+    requires some { 1 ≤ length code.items }
     requires few { length code.items ≤ 0x14000000 }
     ensures { IfOk result (λ segments. segments ≡ (new_image text.now code.items).segments) }
 {
