@@ -2,8 +2,7 @@
 -- right, and all else but bytes is the same.
 use Rattle.std.specs.Prelude.{◌≡◌, ℕ, List, [], ◌∷◌, Option, Some, None}
 use Rattle.x86_values.specs.LessSpecified.{ByteLessSpecified, WordLessSpecified, BytesLessSpecified}
-use Rattle.outside.specs.Environment.{Environment}
-use Rattle.traces.specs.Trace.{Label, End, Exited, MemoryFault, DivideFault, Outside, OtherCall, Unspecified, Guard, Stopped}
+use Rattle.traces.specs.Trace.{End, Exited, MemoryFault, DivideFault, Outside, OtherCall, Unspecified, Guard, Stopped}
 use Rattle.memory.specs.Memory.{Place, Memory, Stored}
 use Rattle.memory.specs.SystemCall.{Request, Called, Ends, Gives}
 

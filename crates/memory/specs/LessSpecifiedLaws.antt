@@ -2,12 +2,12 @@
 use Rattle.std.specs.Prelude.{◌≡◌, ℕ, List}
 use Rattle.x86_values.specs.declared.byte.Byte.{Byte}
 use Rattle.x86_values.specs.LessSpecified.{BytesLessSpecified}
-use Rattle.outside.specs.Environment.{Environment, IsEnvironment}
+use Rattle.outside.specs.Environment.{Environment}
 use Rattle.memory.specs.Memory.{Memory, Stored, AccessKind, HasBytes, put_all, store_all, allows_all, bytes_at, forget_below}
 use Rattle.memory.specs.SystemCall.{Request, system_call}
 use Rattle.memory.specs.LessSpecified.{MemoryLessSpecified, StoresLessSpecified, RequestLessSpecified, CalledLessSpecified}
 
-pub record LessSpecifiedLaws : Type 0 where
+pub record LessSpecifiedMemoryLaws : Type 0 where
   -- a memory of bytes is less specified than itself, and no other is; and it goes on from one to the next
   pub itself : (m : Memory) → HasBytes m → MemoryLessSpecified m m
   pub of_bytes : (m n : Memory) → MemoryLessSpecified m n → HasBytes m

@@ -11,7 +11,7 @@ use Rattle.traces.specs.Trace.{Label, Move, Go}
 use Rattle.image.specs.declared.image.Image.{Image}
 use Rattle.memory.specs.Memory.{memory_of}
 use Rattle.memory.specs.MemoryLaws.{MemoryLaws}
-use Rattle.memory.specs.LessSpecifiedLaws as memory
+use Rattle.memory.specs.LessSpecifiedLaws.{LessSpecifiedMemoryLaws}
 use Rattle.x86_code.specs.Code.{Code}
 use Rattle.x86_meaning.specs.Step.{State, next}
 use Rattle.x86_meaning.specs.Run.{start_over, start_of, IsStart}
@@ -25,7 +25,7 @@ flag_itself (Some b) = refl
 flags_themselves : (f : Flags) → FlagsLessSpecified f f
 flags_themselves f = record { cf = flag_itself f.cf; pf = flag_itself f.pf; zf = flag_itself f.zf; sf = flag_itself f.sf; of = flag_itself f.of }
 
-module _ (less : LessSpecifiedLaws) (memories : memory.LessSpecifiedLaws) where
+module _ (less : LessSpecifiedLaws) (memories : LessSpecifiedMemoryLaws) where
   pub state_itself : (s : State) → IsOfBytes s → StateLessSpecified s s
   state_itself s h = record {
     cpu = record { regs = λ k. less.itself (s.cpu.regs k) (h.registers k); flags = flags_themselves s.cpu.flags };

@@ -1,17 +1,14 @@
 -- What an instruction computes is monotone in what is specified of its operands and of the flags.
-use Rattle.std.proofs.Common.{◌≡◌, ℕ, ◌+◌, ◌/◌, Bool, true, false, List, [], ◌∷◌, Option, Some, None, Result, Ok, Err, refl, ap}
-use Rattle.x86_values.specs.declared.byte.Byte.{Byte}
+use Rattle.std.proofs.Common.{◌≡◌, ℕ, ◌+◌, ◌/◌, Bool, true, false, List, [], ◌∷◌, Option, Some, None, Ok, Err, refl}
 use Rattle.x86_values.specs.declared.word.Word.{Word}
 use Rattle.x86_values.specs.declared.word.Flags.{Flags}
 use Rattle.x86_values.specs.declared.answered.Answered.{Answered}
-use Rattle.x86_values.specs.declared.bitwise.Bit.TheVariants as bit
+use Rattle.x86_values.specs.declared.logic.Bit.TheVariants as bit
 use Rattle.x86_values.specs.declared.product.Product.{Product}
 use Rattle.x86_values.specs.declared.divided.Divided.{Divided}
 use Rattle.x86_values.specs.declared.divided.Divided.TheVariants as divided
-use Rattle.x86_values.specs.Words.{IsWord, word_of, known}
-use Rattle.x86_values.specs.Sizes.{IsSize, cut}
-use Rattle.x86_values.specs.Sums.{add, sub}
-use Rattle.x86_values.specs.Conditions.{condition}
+use Rattle.x86_values.specs.Words.{word_of, known}
+use Rattle.x86_values.specs.Sizes.{IsSize}
 use Rattle.x86_values.specs.WordLaws.{WordLaws}
 use Rattle.x86_values.specs.LessSpecified.{FlagLessSpecified, WordLessSpecified, FlagsLessSpecified, AnsweredLessSpecified, ProductLessSpecified, DividedLessSpecified}
 use Rattle.x86_values.specs.LessSpecifiedLaws.{LessSpecifiedLaws}
@@ -31,9 +28,8 @@ use Rattle.x86_types.specs.declared.operation.AluOp.TheVariants as alu
 use Rattle.x86_types.specs.declared.width.Width.{Width}
 use Rattle.x86_types.specs.declared.width.Width.TheVariants.{One, Two, Four}
 use Rattle.x86_types.specs.Numbers.{size_of}
-use Rattle.x86_meaning.specs.declared.stop.Stop.{Stop}
 use Rattle.x86_meaning.specs.declared.stop.Stop.TheVariants.{MemoryFault, DivideFault, Unspecified}
-use Rattle.x86_meaning.specs.Computing.{Way, Computed, Outcome, value_and_flags, flags_alone, values_alone, goes_to, on_one, on_two, on_three, raised_by, lowered_by, alu_computed, with_carry, both_halves, lower_half, quotient_and_remainder, chosen, picked, jump_computed, movs_computed, stos_computed, compute}
+use Rattle.x86_meaning.specs.Computing.{Computed, Outcome, value_and_flags, flags_alone, values_alone, goes_to, on_one, on_two, on_three, raised_by, lowered_by, alu_computed, with_carry, both_halves, lower_half, quotient_and_remainder, chosen, picked, jump_computed, movs_computed, stos_computed, compute}
 use Rattle.x86_meaning.proofs.SameTransfers.{SameWhere, known_same}
 
 -- the laws of values, all together

@@ -1,24 +1,23 @@
 -- The effect of an instruction is monotone in what is specified.
-use Rattle.std.proofs.Common.{◌≡◌, ℕ, zero, suc, ◌+◌, ◌<◌, List, [], ◌∷◌, ◌++◌, length, take, drop, Option, Some, None, Result, Ok, Err, refl, ap, sym, arith}
+use Rattle.std.proofs.Common.{◌≡◌, ℕ, zero, suc, ◌+◌, List, [], ◌∷◌, ◌++◌, length, take, drop, Option, Some, None, Ok, Err, refl, ap, arith}
 use Rattle.x86_values.specs.declared.byte.Byte.{Byte}
 use Rattle.x86_values.specs.declared.byte.Byte.TheVariants.{Known}
 use Rattle.x86_values.specs.declared.word.Word.{Word}
 use Rattle.x86_values.specs.Words.{word_of, word_list, padded}
-use Rattle.x86_values.specs.Sizes.{no_word}
-use Rattle.x86_values.specs.LessSpecified.{ByteLessSpecified, WordLessSpecified, BytesLessSpecified, FlagsLessSpecified}
+use Rattle.x86_values.specs.LessSpecified.{ByteLessSpecified, WordLessSpecified, BytesLessSpecified}
 use Rattle.memory.specs.Memory.{Memory, Stored}
 use Rattle.memory.specs.LessSpecified.{MemoryLessSpecified, StoresLessSpecified}
-use Rattle.memory.specs.LessSpecifiedLaws as memory
+use Rattle.memory.specs.LessSpecifiedLaws.{LessSpecifiedMemoryLaws}
 use Rattle.x86_types.specs.declared.instr.Instr.{Instr}
 use Rattle.x86_meaning.specs.declared.stop.Stop.TheVariants.{MemoryFault, DivideFault, Unspecified}
 use Rattle.x86_meaning.specs.Registers.{Registers, Processor, Naming, with_bytes}
-use Rattle.x86_meaning.specs.Operands.{Location, InRegister, InMemory, Constant, Operand, word_if, bytes_in, value_in, values_in}
-use Rattle.x86_meaning.specs.Transfers.{Transfer, transfer}
-use Rattle.x86_meaning.specs.Computing.{Outcome, compute}
-use Rattle.x86_meaning.specs.Effect.{Effect, with_part, written, all_written, effect_of, effect_by, effect}
+use Rattle.x86_meaning.specs.Operands.{Location, InRegister, InMemory, Constant, Operand, word_if, bytes_in, values_in}
+use Rattle.x86_meaning.specs.Transfers.{Transfer}
+use Rattle.x86_meaning.specs.Computing.{Outcome}
+use Rattle.x86_meaning.specs.Effect.{Effect, written, all_written, effect_of, effect_by, effect}
 use Rattle.x86_meaning.specs.LessSpecified.{RegistersLessSpecified, ProcessorLessSpecified, EffectLessSpecified, ResultLessSpecified}
 use Rattle.x86_meaning.proofs.SameTransfers.{SameWhere, SameLocation, SameOperands, SameTransfer, set_less, transfer_same}
-use Rattle.x86_meaning.proofs.ComputedLess.{ValueLaws, WordsLessSpecified, OutcomeLess, ComputedLess, compute_less}
+use Rattle.x86_meaning.proofs.ComputedLess.{ValueLaws, WordsLessSpecified, OutcomeLess, compute_less}
 
 -- ---- lists of bytes
 bytes_taken : (n : ℕ) (bs cs : List Byte) → BytesLessSpecified bs cs → BytesLessSpecified (take n bs) (take n cs)
@@ -72,7 +71,7 @@ stores_joined [] ys us vs h k = rw h k
 stores_joined (x ∷ xs) [] us vs h k = absurd h
 stores_joined (x ∷ xs) (y ∷ ys) us vs h k = (h.0, h.1, stores_joined xs ys us vs h.2 k)
 
-module _ (laws : ValueLaws) (memories : memory.LessSpecifiedLaws) where
+module _ (laws : ValueLaws) (memories : LessSpecifiedMemoryLaws) where
   number_less : (a b : Option ℕ) → SameWhere a b → WordLessSpecified (word_if a) (word_if b)
   number_less None b h = record { b0 = tt; b1 = tt; b2 = tt; b3 = tt }
   number_less (Some n) b h = rw h (laws.less.itself (word_of n) (laws.words.word_of_bytes n))

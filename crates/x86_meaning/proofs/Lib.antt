@@ -4,6 +4,7 @@ pub mod SameTransfers
 pub mod ComputedLess
 pub mod EffectLess
 pub mod StepLess
+pub mod Accessing
 pub mod Steps
 pub mod Cases
 pub mod States
@@ -11,3 +12,11 @@ pub mod Bytes
 pub mod Moves
 pub mod Rows
 pub mod AluRows
+pub mod LogicRows
+pub mod ProductRows
+pub mod DivisionRows
+pub mod RotateRows
+pub mod ShiftRows
+pub mod DoubleShiftRows
+pub mod ScanRows
+pub mod ExtensionRows

@@ -1,5 +1,5 @@
 -- What each move of the machine shows, and how it ends.
-use Rattle.std.proofs.Common.{◌≡◌, ℕ, ◌+◌, ◌≢◌, true, false, List, [], Option, Some, None, refl, subst}
+use Rattle.std.proofs.Common.{◌≡◌, ℕ, ◌+◌, ◌≢◌, true, false, List, [], Some, refl, subst}
 use Rattle.traces.specs.Trace.{Label, End, Guard, Stopped, GuardKind, Move, Stand, Go, Halt, Grows, turns, input_left}
 use Rattle.traces.specs.Steps.{Reaches}
 use Rattle.traces.specs.Weight.{Paced, Ticks}

@@ -1,5 +1,5 @@
 -- What an instruction reads and writes is the same where its registers are less specified, if it reads and writes at all.
-use Rattle.std.proofs.Common.{◌≡◌, ℕ, zero, suc, ◌+◌, ◌*◌, ◌%◌, ◌&&◌, Bool, true, false, cond, List, [], ◌∷◌, Option, Some, None, refl, ap, sym, subst}
+use Rattle.std.proofs.Common.{◌≡◌, ℕ, zero, suc, Bool, true, false, cond, List, [], ◌∷◌, Option, Some, None, refl, ap, sym, subst}
 use Rattle.std.specs.Option.{option_map}
 use Rattle.x86_values.specs.declared.word.Word.{Word}
 use Rattle.x86_values.specs.Words.{word_of, known}
@@ -18,8 +18,8 @@ use Rattle.x86_types.specs.declared.width.Width.{Width}
 use Rattle.x86_types.specs.declared.width.Width.TheVariants.{One, Four}
 use Rattle.x86_types.specs.Numbers.{size_of}
 use Rattle.x86_meaning.specs.Registers.{Registers, Naming, with_register}
-use Rattle.x86_meaning.specs.Operands.{Location, InRegister, InMemory, Constant, Operand, operand, field, address_part, address_sum, effective_address, location_of, source_of}
-use Rattle.x86_meaning.specs.Transfers.{Transfer, transfer_of, no_transfer, register, by_one, by_two, move_transfer, push_transfer, push_of, pop_transfer, pop_to, raised, up, leave_transfer, movs_transfer, stos_transfer, if_counted, string_transfer, transfer}
+use Rattle.x86_meaning.specs.Operands.{Location, InRegister, InMemory, Constant, Operand, address_part, address_sum, effective_address, location_of, source_of}
+use Rattle.x86_meaning.specs.Transfers.{Transfer, register, by_one, by_two, push_transfer, push_of, pop_transfer, pop_to, raised, up, leave_transfer, movs_transfer, stos_transfer, if_counted, string_transfer, transfer}
 use Rattle.x86_meaning.specs.LessSpecified.{RegistersLessSpecified}
 
 -- what is there on the left is the same on the right

@@ -9,10 +9,10 @@ use Rattle.x86_values.specs.LessSpecified.{BytesLessSpecified}
 use Rattle.outside.specs.Environment.{Environment}
 use Rattle.traces.specs.Trace.{Label, End, Exited, OtherCall, Outside, Guard, Stopped, Move, Stand, Go, Halt}
 use Rattle.traces.specs.Trace as trace
-use Rattle.memory.specs.Memory.{Memory, Stored, AccessKind, Load, Store, allows_all, wrapped}
+use Rattle.memory.specs.Memory.{Memory, Stored, AccessKind, Load, Store, wrapped}
 use Rattle.memory.specs.LessSpecified.{MemoryLessSpecified, StoresLessSpecified, EndLessSpecified, CalledLessSpecified}
 use Rattle.memory.specs.CallLaws.{CallLaws, StoresBytes, CallIsKept}
-use Rattle.memory.specs.LessSpecifiedLaws as memory
+use Rattle.memory.specs.LessSpecifiedLaws.{LessSpecifiedMemoryLaws}
 use Rattle.memory.specs.SystemCall.{Called, Ends, Gives, system_call}
 use Rattle.x86_types.specs.declared.instr.Instr.{Instr}
 use Rattle.x86_code.specs.Code.{Code}
@@ -23,7 +23,7 @@ use Rattle.x86_meaning.specs.Operands.{Location, InRegister, InMemory, Constant,
 use Rattle.x86_meaning.specs.Transfers.{Transfer, transfer}
 use Rattle.x86_meaning.specs.Computing.{Way, Falls, JumpsBy, JumpsTo, Repeats, Calls}
 use Rattle.x86_meaning.specs.Effect.{Effect, transfer_accesses, accesses, effect_by, effect}
-use Rattle.x86_meaning.specs.Step.{State, access_allowed, all_allowed, settled_by, settled, at_address, request_of, with_result, after_call, finish, performed, end_of, by_stores, by_effect, by_loads, step, step_at, next}
+use Rattle.x86_meaning.specs.Step.{State, access_allowed, all_allowed, settled_by, settled, at_address, request_of, with_result, after_call, finish, performed, by_stores, by_effect, by_loads, step, step_at, next}
 use Rattle.x86_meaning.specs.LessSpecified.{ProcessorLessSpecified, StateLessSpecified, MoveLessSpecified, EffectLessSpecified, ResultLessSpecified}
 use Rattle.x86_meaning.proofs.SameTransfers.{SameWhere, SameLocation, SameOperands, SameTransfer, known_same, set_less, transfer_same}
 use Rattle.x86_meaning.proofs.ComputedLess.{ValueLaws}
@@ -53,7 +53,7 @@ same_end (OtherCall n) m h = rw h refl
 same_end (Guard k a) m h = rw h refl
 same_end (Stopped a) m h = rw h refl
 
-module _ (laws : ValueLaws) (memories : memory.LessSpecifiedLaws) where
+module _ (laws : ValueLaws) (memories : LessSpecifiedMemoryLaws) where
   -- ---- the judging
   access_judged : (kind other : AccessKind) (m n : Memory) (at size : ℕ) → MemoryLessSpecified m n → access_allowed kind other m at size ≡ access_allowed kind other n at size
   access_judged Load Load m n at size h = memories.allows Load m n at size h

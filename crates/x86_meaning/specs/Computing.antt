@@ -5,7 +5,7 @@ use Rattle.std.specs.Prelude.{ℕ, ◌+◌, ◌/◌, Bool, true, false, List, []
 use Rattle.x86_values.specs.declared.word.Word.{Word}
 use Rattle.x86_values.specs.declared.word.Flags.{Flags}
 use Rattle.x86_values.specs.declared.answered.Answered.{Answered}
-use Rattle.x86_values.specs.declared.bitwise.Bit.TheVariants as bit
+use Rattle.x86_values.specs.declared.logic.Bit.TheVariants as bit
 use Rattle.x86_values.specs.declared.product.Product.{Product}
 use Rattle.x86_values.specs.declared.divided.Divided.{Divided}
 use Rattle.x86_values.specs.declared.divided.Divided.TheVariants as divided

@@ -2,7 +2,6 @@
 -- does that before.
 use Rattle.std.specs.Prelude.{ℕ, List, [], ◌∷◌, ◌++◌, take, Option, Some, None, Result, Ok, Err}
 use Rattle.x86_values.specs.declared.word.Word.{Word}
-use Rattle.x86_values.specs.declared.word.Flags.{Flags}
 use Rattle.x86_values.specs.Words.{word_list}
 use Rattle.memory.specs.Memory.{Memory, Stored, Load, Store}
 use Rattle.x86_types.specs.declared.instr.Instr.{Instr}
@@ -11,7 +10,7 @@ use Rattle.x86_meaning.specs.declared.stop.Stop.TheVariants.{Unspecified}
 use Rattle.x86_meaning.specs.Registers.{Registers, Processor, Naming, with_register, with_bytes}
 use Rattle.x86_meaning.specs.Operands.{Location, InRegister, InMemory, Constant, Operand, Access, accesses_of, values_in}
 use Rattle.x86_meaning.specs.Transfers.{Transfer, transfer}
-use Rattle.x86_meaning.specs.Computing.{Way, Computed, Outcome, compute}
+use Rattle.x86_meaning.specs.Computing.{Way, Outcome, compute}
 
 -- what an instruction does: the new registers and flags, the bytes that it stores, in order, and its way
 pub record Effect : Type 0 where

@@ -1,6 +1,6 @@
 -- States that are less specified than others: each byte and flag that is known on the left is the same on the right, and all else is
 -- the same. The input is one of bytes, so that what is read into memory is. Where a step of the left state goes on, the right one's goes on to a state like that.
-use Rattle.std.specs.Prelude.{◌≡◌, ℕ, List, Result, Ok, Err}
+use Rattle.std.specs.Prelude.{◌≡◌, ℕ, Result, Ok, Err}
 use Rattle.x86_values.specs.LessSpecified.{WordLessSpecified, FlagsLessSpecified}
 use Rattle.outside.specs.Environment.{IsEnvironment}
 use Rattle.traces.specs.Trace.{Move, Stand, Go, Halt}

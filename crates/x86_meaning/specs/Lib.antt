@@ -7,6 +7,7 @@ pub mod Step
 pub mod Run
 pub mod Agreement
 pub mod LessSpecified
+pub mod AccessLaws
 pub mod StepLaws
 pub mod RunLaws
 pub mod Rows
@@ -14,3 +15,12 @@ pub mod CallRows
 pub mod MoveRows
 pub mod StepRows
 pub mod AluRows
+pub mod LogicRows
+pub mod RowWords
+pub mod ProductRows
+pub mod DivisionRows
+pub mod RotateRows
+pub mod ShiftRows
+pub mod DoubleShiftRows
+pub mod ScanRows
+pub mod ExtensionRows

@@ -1,5 +1,5 @@
 -- Worked steps of single instructions: a small memory, registers and flags before the step, and what stands there after it.
-use Rattle.std.specs.Prelude.{◌≡◌, ℕ, ◌+◌, ◌-◌, ◌==◌, ◌&&◌, true, false, cond, leb, ltb, Bool, map, List, [], ◌∷◌, slice_index_or, Option, Some, None}
+use Rattle.std.specs.Prelude.{ℕ, ◌+◌, ◌-◌, ◌==◌, ◌&&◌, true, false, cond, leb, ltb, Bool, map, List, [], ◌∷◌, slice_index_or, Option, Some, None}
 use Rattle.x86_values.specs.declared.byte.Byte.{Byte}
 use Rattle.x86_values.specs.declared.byte.Byte.TheVariants.{Known, Unspecified}
 use Rattle.x86_values.specs.declared.word.Word.{Word}

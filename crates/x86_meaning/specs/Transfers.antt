@@ -9,7 +9,6 @@ use Rattle.x86_types.specs.declared.operation.AluOp.{AluOp}
 use Rattle.x86_types.specs.declared.operation.AluOp.TheVariants as alu
 use Rattle.x86_types.specs.declared.operation.Count.{Count}
 use Rattle.x86_types.specs.declared.operation.Count.TheVariants as count
-use Rattle.x86_types.specs.declared.operand.Rm.{Rm}
 use Rattle.x86_types.specs.declared.width.Width.{Width}
 use Rattle.x86_types.specs.declared.width.Width.TheVariants.{One, Two, Four}
 use Rattle.x86_types.specs.Numbers.{size_of}

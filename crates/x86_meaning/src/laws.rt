@@ -1,11 +1,12 @@
 // The laws of the definitions. Each function's clause is a record of laws.
+ghost use Rattle.x86_meaning.specs.AccessLaws.{AccessLaws};
 ghost use Rattle.x86_meaning.specs.CallRows.{WorkedCalls};
 ghost use Rattle.x86_meaning.specs.MoveRows.{WorkedMoves};
 ghost use Rattle.x86_meaning.specs.RunLaws.{ProgramLaws};
 ghost use Rattle.x86_meaning.specs.Step.{State};
 ghost use Rattle.x86_meaning.specs.StepLaws.{StepLaws};
 
-use memory::call_laws;
+use memory::{call_laws, memory_laws};
 use traces::{States, move_laws, run_laws};
 
 /// Names the states of the machine.
@@ -20,6 +21,15 @@ impl States for Meaning {
 pub fn step_laws()
     ensures { StepLaws }
 {}
+
+/// Its clause is what a step looks at: its effect looks at memory in the loads alone, and over two memories that differ only
+/// where it makes no access it comes to the same.
+pub fn access_laws()
+    ensures { AccessLaws }
+{
+    memory_laws();
+    call_laws();
+}
 
 /// Its clause is the laws of each run, whatever stands at each address and from whatever state: it grows, ends by no stop and
 /// no guard event, and takes one step a turn.

@@ -1,5 +1,5 @@
 -- Words that are less specified than others.
-use Rattle.std.proofs.Common.{◌≡◌, ℕ, zero, suc, ◌+◌, ◌*◌, ◌<◌, ◌==◌, ◌||◌, Bool, true, false, cond, leb, Option, Some, None, refl, ap, sym, ◌∙◌, arith}
+use Rattle.std.proofs.Common.{◌≡◌, ℕ, zero, suc, ◌+◌, ◌*◌, ◌<◌, Bool, true, false, cond, leb, Some, refl, ap, sym, ◌∙◌, arith}
 use Rattle.std.proofs.lemmas.Bool.Decides.{nat_tests}
 use Rattle.x86_values.specs.declared.byte.Byte.{Byte}
 use Rattle.x86_values.specs.declared.byte.Byte.TheVariants.{Known, Unspecified}
@@ -9,7 +9,7 @@ use Rattle.x86_values.specs.Sizes.{IsSize, cut, no_word, number, full}
 use Rattle.x86_values.specs.LessSpecified.{ByteLessSpecified, WordLessSpecified}
 use Rattle.x86_values.specs.LessSpecifiedLaws.{LessSpecifiedLaws}
 
-byte_itself : (x : Byte) → IsByte x → ByteLessSpecified x x
+pub byte_itself : (x : Byte) → IsByte x → ByteLessSpecified x x
 byte_itself (Known a) h = (refl, h)
 byte_itself Unspecified h = tt
 

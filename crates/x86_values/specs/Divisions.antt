@@ -1,7 +1,7 @@
 -- Divisions (Intel SDM volume 2, "DIV", "IDIV"): the number of two halves by a number, truncated towards 0; the remainder has the
 -- sign of the dividend. They fault where the divisor is 0 or the quotient is none of the size. Where a byte of an operand is
 -- unspecified they come to nothing (own).
-use Rattle.std.specs.Prelude.{ℕ, ◌+◌, ◌-◌, ◌*◌, ◌/◌, ◌%◌, ◌==◌, ◌||◌, Bool, true, false, cond, leb, ltb, Option, Some, None}
+use Rattle.std.specs.Prelude.{ℕ, ◌+◌, ◌-◌, ◌*◌, ◌/◌, ◌%◌, ◌==◌, Bool, true, false, cond, leb, ltb, Option, Some}
 use Rattle.x86_values.specs.declared.word.Word.{Word}
 use Rattle.x86_values.specs.declared.divided.Divided.{Divided}
 use Rattle.x86_values.specs.declared.divided.Divided.TheVariants.{Got, Fault, Unspecified}

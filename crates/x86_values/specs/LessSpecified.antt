@@ -1,6 +1,6 @@
 -- Less specified: each byte or flag that is known on the left is the same on the right, and a byte that is known is below 256. So
 -- what holds of each right side holds whatever the unspecified bytes of the left are.
-use Rattle.std.specs.Prelude.{◌≡◌, ℕ, ◌<◌, Bool, Option, Some, None, List, [], ◌∷◌}
+use Rattle.std.specs.Prelude.{◌≡◌, ◌<◌, Bool, Option, Some, None, List, [], ◌∷◌}
 use Rattle.x86_values.specs.declared.byte.Byte.{Byte}
 use Rattle.x86_values.specs.declared.byte.Byte.TheVariants.{Known, Unspecified}
 use Rattle.x86_values.specs.declared.word.Word.{Word}

@@ -1,5 +1,5 @@
 -- The laws of words that are less specified than others.
-use Rattle.std.specs.Prelude.{◌≡◌, ◌↔◌, ℕ, ◌<◌, Option, Some}
+use Rattle.std.specs.Prelude.{◌≡◌, ℕ, ◌<◌, Some}
 use Rattle.x86_values.specs.declared.word.Word.{Word}
 use Rattle.x86_values.specs.Words.{IsWord, known, known_byte}
 use Rattle.x86_values.specs.declared.byte.Byte.{Byte}

@@ -8,8 +8,8 @@ use Rattle.x86_values.specs.declared.byte.Byte.TheVariants.{Known, Unspecified}
 use Rattle.x86_values.specs.declared.word.Word.{Word}
 use Rattle.x86_values.specs.declared.word.Flags.{Flags}
 use Rattle.x86_values.specs.declared.answered.Answered.{Answered}
-use Rattle.x86_values.specs.declared.bitwise.Bit.{Bit}
-use Rattle.x86_values.specs.declared.bitwise.Bit.TheVariants.{And, Or, Xor}
+use Rattle.x86_values.specs.declared.logic.Bit.{Bit}
+use Rattle.x86_values.specs.declared.logic.Bit.TheVariants.{And, Or, Xor}
 use Rattle.x86_values.specs.Sizes.{cut, number}
 use Rattle.x86_values.specs.Results.{no_flags, flags_of}
 

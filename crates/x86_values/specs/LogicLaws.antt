@@ -1,7 +1,7 @@
 -- Bitwise operations are monotone in what is specified.
 use Rattle.std.specs.Prelude.{ℕ}
 use Rattle.x86_values.specs.declared.word.Word.{Word}
-use Rattle.x86_values.specs.declared.bitwise.Bit.{Bit}
+use Rattle.x86_values.specs.declared.logic.Bit.{Bit}
 use Rattle.x86_values.specs.Sizes.{IsSize}
 use Rattle.x86_values.specs.Logic.{bitwise}
 use Rattle.x86_values.specs.LessSpecified.{WordLessSpecified, AnsweredLessSpecified}

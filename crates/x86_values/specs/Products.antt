@@ -1,6 +1,6 @@
 -- Products (Intel SDM volume 2, "MUL", "IMUL"). CF and OF say whether the upper half has bits of its own; ZF and PF are unspecified,
 -- and SF is too (own for IMUL). Where a byte of an operand is unspecified, so are both halves and all flags (own).
-use Rattle.std.specs.Prelude.{ℕ, ◌+◌, ◌-◌, ◌*◌, ◌/◌, ◌%◌, ◌==◌, Bool, true, false, not, cond, Option, Some, None}
+use Rattle.std.specs.Prelude.{ℕ, ◌+◌, ◌-◌, ◌*◌, ◌/◌, ◌%◌, ◌==◌, Bool, true, false, not, cond, Option, Some}
 use Rattle.x86_values.specs.declared.word.Word.{Word}
 use Rattle.x86_values.specs.declared.word.Flags.{Flags}
 use Rattle.x86_values.specs.declared.product.Product.{Product}
@@ -14,7 +14,7 @@ correction size a b = cond (is_negative size a) (full size * b) 0
 
 -- the product in twice the size, modulo its range
 abbrev pub product : Bool → ℕ → ℕ → ℕ → ℕ
-product false size a b = a * b
+product false size a b = a * b % (full size * full size)
 product true size a b = (a * b + 2 * (full size * full size) - (correction size a b + correction size b a)) % (full size * full size)
 
 -- what the upper half is where the lower one has all of the product: zeros, or copies of its sign

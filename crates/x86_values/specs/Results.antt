@@ -1,6 +1,5 @@
 -- A result and the flags that it sets (Intel SDM volume 1, "Status Flags").
 use Rattle.std.specs.Prelude.{ℕ, ◌+◌, ◌/◌, ◌%◌, ◌==◌, Bool, true, false, Option, Some, None}
-use Rattle.x86_values.specs.declared.word.Word.{Word}
 use Rattle.x86_values.specs.declared.word.Flags.{Flags}
 use Rattle.x86_values.specs.declared.answered.Answered.{Answered}
 use Rattle.x86_values.specs.Words.{word_of}

@@ -1,6 +1,6 @@
 -- Bit scans (Intel SDM volume 2, "BSF", "BSR"): the lowest or the highest bit that is set. ZF is set where none is, and the result is
 -- unspecified then; CF, PF, SF and OF are unspecified. Where a byte of the operand is unspecified, so are the result and ZF (own).
-use Rattle.std.specs.Prelude.{ℕ, zero, suc, ◌+◌, ◌*◌, ◌/◌, ◌%◌, ◌==◌, Bool, true, false, cond, Option, Some, None}
+use Rattle.std.specs.Prelude.{ℕ, zero, suc, ◌+◌, ◌/◌, ◌%◌, ◌==◌, Bool, true, false, cond, Option, Some, None}
 use Rattle.x86_values.specs.declared.word.Word.{Word}
 use Rattle.x86_values.specs.declared.answered.Answered.{Answered}
 use Rattle.x86_values.specs.Words.{word_of}

@@ -1,6 +1,6 @@
 -- Sums and differences (Intel SDM volume 2, "ADC", "SBB"; "ADD", "SUB", "CMP", "INC", "DEC" and "NEG" are these with a carry of 0
 -- or a constant operand). Where a byte of an operand or the carry is unspecified, so are the result and all flags (own).
-use Rattle.std.specs.Prelude.{ℕ, ◌+◌, ◌-◌, ◌%◌, ◌&&◌, Bool, not, leb, ltb, Option, Some, None}
+use Rattle.std.specs.Prelude.{ℕ, ◌+◌, ◌-◌, ◌%◌, ◌&&◌, Bool, not, leb, ltb, Option, Some}
 use Rattle.x86_values.specs.declared.word.Word.{Word}
 use Rattle.x86_values.specs.declared.answered.Answered.{Answered}
 use Rattle.x86_values.specs.Sizes.{number, full, half}

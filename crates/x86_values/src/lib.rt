@@ -2,20 +2,32 @@
 #![tactic(auto)]
 
 mod answered;
-mod bitwise;
 mod byte;
+mod conditions;
 mod divided;
+mod extension;
 mod laws;
+mod logic;
+mod operand;
 mod product;
+mod result;
+mod scans;
+mod size;
+mod sum;
 #[cfg(test)]
 mod tests;
 mod word;
 
 pub use answered::Answered;
-pub use bitwise::Bit;
 pub use byte::Byte;
-pub use divided::Divided;
+pub use conditions::{condition, condition_laws, worked_conditions};
+pub use divided::{Divided, divide, division_laws, worked_divisions};
+pub use extension::{bytes_swapped, extension_laws, sign_extended, sign_word, worked_extensions};
 pub use laws::{less_specified_laws, word_laws};
-pub use product::Product;
+pub use logic::{Bit, bitwise, logic_laws, worked_bitwise};
+pub use product::{Product, multiply, product_laws, worked_products};
+pub use scans::{scan, scan_laws, worked_scans};
+pub use size::{cut, number, worked_sizes};
+pub use sum::{add, sub, sum_laws, worked_sums};
 pub use word::{Flags, Word, known, word_of};
 pub use x86_types::ShiftOp as Shifting;
