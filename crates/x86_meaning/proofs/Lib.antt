@@ -11,3 +11,11 @@ pub mod Bytes
 pub mod Moves
 pub mod Rows
 pub mod AluRows
+pub mod CopyRows
+pub mod StackRows
+pub mod ProcedureRows
+pub mod JumpRows
+pub mod StringRows
+pub mod ChoiceRows
+pub mod ConditionRows
+pub mod WrappingRows

@@ -14,3 +14,12 @@ pub mod CallRows
 pub mod MoveRows
 pub mod StepRows
 pub mod AluRows
+pub mod RowParts
+pub mod CopyRows
+pub mod StackRows
+pub mod ProcedureRows
+pub mod JumpRows
+pub mod StringRows
+pub mod ChoiceRows
+pub mod ConditionRows
+pub mod WrappingRows
