@@ -24,3 +24,12 @@ pub mod ShiftRows
 pub mod DoubleShiftRows
 pub mod ScanRows
 pub mod ExtensionRows
+pub mod RowParts
+pub mod CopyRows
+pub mod StackRows
+pub mod ProcedureRows
+pub mod JumpRows
+pub mod StringRows
+pub mod ChoiceRows
+pub mod ConditionRows
+pub mod WrappingRows
