@@ -1,6 +1,8 @@
 pub mod Registers
 pub mod Operands
+pub mod TransferShapes
 pub mod Transfers
+pub mod Outcomes
 pub mod Computing
 pub mod Effect
 pub mod Step
