@@ -11,3 +11,10 @@ pub mod Bytes
 pub mod Moves
 pub mod Rows
 pub mod AluRows
+pub mod ProductRows
+pub mod DivisionRows
+pub mod RotateRows
+pub mod ShiftRows
+pub mod DoubleShiftRows
+pub mod ScanRows
+pub mod ExtensionRows

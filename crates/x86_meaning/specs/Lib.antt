@@ -14,3 +14,11 @@ pub mod CallRows
 pub mod MoveRows
 pub mod StepRows
 pub mod AluRows
+pub mod RowWords
+pub mod ProductRows
+pub mod DivisionRows
+pub mod RotateRows
+pub mod ShiftRows
+pub mod DoubleShiftRows
+pub mod ScanRows
+pub mod ExtensionRows
