@@ -3,7 +3,7 @@ ghost use Rattle.x86_meaning.specs.JumpRows.{CldRows, JmpRows, JmpToRows, NopRow
 
 /// Does nothing: its clauses are worked steps of JMP, CLD and NOP, computed.
 #[tactic(auto, using(crate::proofs::JumpRows::jmp_rows, crate::proofs::JumpRows::jmp_to_rows, crate::proofs::JumpRows::cld_rows, crate::proofs::JumpRows::nop_rows))]
-pub fn worked_jumps()
+pub fn worked_jump_steps()
     ensures jmp { JmpRows }
     ensures jmp_to { JmpToRows }
     ensures cld { CldRows }
