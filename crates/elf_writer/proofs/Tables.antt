@@ -9,7 +9,7 @@ use Rattle.elf_image.specs.declared.header.ProgramHeader.{ProgramHeader}
 use Rattle.image.specs.declared.image.Segment.{Segment}
 use Rattle.byte_lists.specs.LittleEndian.{word_at}
 use Rattle.elf_image.specs.Fields.{header_at, headers_from}
-use Rattle.elf_writer.specs.Wanted.{HasItsPlace}
+use Rattle.image.specs.Wanted.{HasItsPlace}
 use Rattle.elf_writer.specs.Written.{header_bytes, headers_for, stack_header, stack_headers, program_headers, header_count, table_bytes, data_of}
 use Rattle.elf_writer.proofs.HeaderFields.{word_again}
 

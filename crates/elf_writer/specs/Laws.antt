@@ -2,12 +2,14 @@
 use Rattle.std.specs.Prelude.{◌≡◌, ℕ, ◌+◌, List, [], ◌∷◌, ◌++◌, length, Ok}
 use Rattle.image.specs.declared.image.Segment.{Segment}
 use Rattle.image.specs.declared.image.Image.{Image}
-use Rattle.elf_image.specs.declared.refusal.Room.TheVariants.{Any}
+use Rattle.image.specs.declared.room.Room.{Room}
+use Rattle.image.specs.declared.room.Room.TheVariants.{Any}
 use Rattle.elf_image.specs.Image.{image_of}
 use Rattle.elf_image.specs.Plain.{room_segment}
 use Rattle.byte_lists.specs.LittleEndian.{word_bytes, zeros, AreBytes}
 use Rattle.elf_image.specs.Rows.{file_header, segment_header}
-use Rattle.elf_writer.specs.Wanted.{CanBeWritten, image_with}
+use Rattle.elf_writer.specs.Wanted.{CanBeWritten}
+use Rattle.image.specs.Wanted.{image_with}
 use Rattle.elf_writer.specs.Written.{data_of, header_count, table_end, data_start, written}
 
 -- the file of an image that can be written is accepted in the wide room, as this image
@@ -40,6 +42,6 @@ pub record DataStarts : Type 0 where
   pub first_on_two_pages : data_start 126 ≡ 0x2000
   pub greatest : data_start 65535 ≡ 0x201000
 
--- the image of every file of bytes that the wide room accepts can be written
+-- the image of every file of bytes that a room accepts can be written
 abbrev pub ReadImagesCanBeWritten : Type 0
-ReadImagesCanBeWritten = (file : List ℕ) (image : Image) → image_of file Any ≡ Ok image → AreBytes file → CanBeWritten image.segments image.entry
+ReadImagesCanBeWritten = (file : List ℕ) (room : Room) (image : Image) → image_of file room ≡ Ok image → AreBytes file → CanBeWritten image.segments image.entry

@@ -1,8 +1,9 @@
 // An image as a file.
 ghost use Rattle.std.specs.Prelude.{◌≡◌, ◌<◌, ◌++◌, length, Ok, IfOk, OnOk};
-ghost use Rattle.elf_image.specs.declared.refusal.Room.TheVariants.{Any};
+ghost use Rattle.image.specs.declared.room.Room.TheVariants.{Any};
 ghost use Rattle.elf_image.specs.Image.{image_of};
-ghost use Rattle.elf_writer.specs.Wanted.{CanBeWritten, image_with};
+ghost use Rattle.elf_writer.specs.Wanted.{CanBeWritten};
+ghost use Rattle.image.specs.Wanted.{image_with};
 ghost use Rattle.elf_writer.specs.Written.{data_of, written};
 
 use crate::header::{header_count, push_elf_header, push_segment_headers, push_stack_header};

@@ -1,20 +1,20 @@
 -- What a step looks at.
-use Rattle.std.proofs.Common.{◌≡◌, ℕ, ◌+◌, ◌<◌, Bool, true, false, List, [], ◌∷◌, ◌++◌, take, Option, Some, None, Result, Ok, Err, refl, ap, sym, ◌∙◌, subst}
-use Rattle.x86_values.specs.declared.byte.Byte.{Byte}
+use Rattle.std.proofs.Common.{◌≡◌, ℕ, ◌+◌, Bool, true, false, List, [], ◌∷◌, ◌++◌, Option, Some, None, Result, Ok, Err, refl, ap, ◌∙◌, subst}
 use Rattle.x86_values.specs.declared.word.Word.{Word}
 use Rattle.x86_values.specs.Words.{padded, known}
-use Rattle.traces.specs.Trace.{Label, Move, Stand, Go, Halt}
-use Rattle.outside.specs.Environment.{Environment}
-use Rattle.memory.specs.Memory.{Memory, wrapped, Stored, AccessKind, Load, Store, allows_all, SameIn, SameOutside, AreApart, put_all, store_all}
+use Rattle.traces.specs.Trace.{Label, Move}
+use Rattle.memory.specs.Memory.{Memory, wrapped, Stored, AccessKind, Load, Store, SameIn, SameOutside, AreApart, store_all}
 use Rattle.memory.specs.MemoryLaws.{MemoryLaws}
-use Rattle.memory.specs.CallLaws.{CallLaws, SameBuffer}
+use Rattle.memory.specs.CallLaws.{CallLaws}
 use Rattle.memory.specs.SystemCall.{Request, Called, Ends, Gives, system_call}
 use Rattle.x86_types.specs.declared.instr.Instr.{Instr}
 use Rattle.x86_meaning.specs.declared.stop.Stop.{Stop}
 use Rattle.x86_meaning.specs.Registers.{Registers, Processor, Naming, machine_naming}
 use Rattle.x86_meaning.specs.Operands.{Location, InRegister, InMemory, Constant, Operand, Access, access, accesses_of, bytes_in, value_in, values_in}
-use Rattle.x86_meaning.specs.Transfers.{Transfer, transfer}
-use Rattle.x86_meaning.specs.Computing.{Way, Falls, JumpsBy, JumpsTo, Repeats, Calls, compute}
+use Rattle.x86_meaning.specs.TransferShapes.{Transfer}
+use Rattle.x86_meaning.specs.Transfers.{transfer}
+use Rattle.x86_meaning.specs.Outcomes.{Way, Falls, JumpsBy, JumpsTo, Repeats, Calls}
+use Rattle.x86_meaning.specs.Computing.{compute}
 use Rattle.x86_meaning.specs.Effect.{Effect, transfer_accesses, accesses, effect_of, effect_by, effect}
 use Rattle.x86_meaning.specs.Step.{State, access_allowed, all_allowed, settled_by, settled, at_address, request_of, with_result, after_call, finish, performed, by_stores, by_effect, by_loads, step}
 use Rattle.x86_meaning.specs.AccessLaws.{SameLoad, SameLoads, AllApart, BufferIsApart, SameButRange, MovesAlike, CallIsApart}

@@ -9,7 +9,7 @@ use Rattle.x86_code.specs.Code.{Code}
 use Rattle.x86_meaning.specs.Registers.{machine_naming}
 use Rattle.x86_meaning.specs.declared.stop.Stop.{Stop}
 use Rattle.x86_meaning.specs.declared.stop.Stop.TheVariants.{MemoryFault}
-use Rattle.x86_meaning.specs.Computing.{Way, Falls, JumpsBy, JumpsTo, Repeats, Calls}
+use Rattle.x86_meaning.specs.Outcomes.{Way, Falls, JumpsBy, JumpsTo, Repeats, Calls}
 use Rattle.x86_meaning.specs.Effect.{Effect, effect}
 use Rattle.x86_meaning.specs.Step.{State, settled_by, settled, at_address, request_of, after_call, finish, performed, end_of, by_stores, by_effect, by_loads, step, step_at, next}
 

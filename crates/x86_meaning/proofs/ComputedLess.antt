@@ -29,7 +29,8 @@ use Rattle.x86_types.specs.declared.width.Width.{Width}
 use Rattle.x86_types.specs.declared.width.Width.TheVariants.{One, Two, Four}
 use Rattle.x86_types.specs.Numbers.{size_of}
 use Rattle.x86_meaning.specs.declared.stop.Stop.TheVariants.{MemoryFault, DivideFault, Unspecified}
-use Rattle.x86_meaning.specs.Computing.{Computed, Outcome, value_and_flags, flags_alone, values_alone, goes_to, on_one, on_two, on_three, raised_by, lowered_by, alu_computed, with_carry, both_halves, lower_half, quotient_and_remainder, chosen, picked, jump_computed, movs_computed, stos_computed, compute}
+use Rattle.x86_meaning.specs.Outcomes.{Computed, Outcome, value_and_flags, flags_alone, values_alone, goes_to, on_one, on_two, on_three, raised_by, lowered_by, alu_computed, with_carry, both_halves, lower_half, quotient_and_remainder, chosen, picked, jump_computed, movs_computed, stos_computed}
+use Rattle.x86_meaning.specs.Computing.{compute}
 use Rattle.x86_meaning.proofs.SameTransfers.{SameWhere, known_same}
 
 -- the laws of values, all together

@@ -12,8 +12,8 @@ use Rattle.x86_types.specs.declared.instr.Instr.{Instr}
 use Rattle.x86_meaning.specs.declared.stop.Stop.TheVariants.{MemoryFault, DivideFault, Unspecified}
 use Rattle.x86_meaning.specs.Registers.{Registers, Processor, Naming, with_bytes}
 use Rattle.x86_meaning.specs.Operands.{Location, InRegister, InMemory, Constant, Operand, word_if, bytes_in, values_in}
-use Rattle.x86_meaning.specs.Transfers.{Transfer}
-use Rattle.x86_meaning.specs.Computing.{Outcome}
+use Rattle.x86_meaning.specs.TransferShapes.{Transfer}
+use Rattle.x86_meaning.specs.Outcomes.{Outcome}
 use Rattle.x86_meaning.specs.Effect.{Effect, written, all_written, effect_of, effect_by, effect}
 use Rattle.x86_meaning.specs.LessSpecified.{RegistersLessSpecified, ProcessorLessSpecified, EffectLessSpecified, ResultLessSpecified}
 use Rattle.x86_meaning.proofs.SameTransfers.{SameWhere, SameLocation, SameOperands, SameTransfer, set_less, transfer_same}

@@ -18,8 +18,10 @@ use Rattle.x86_types.specs.declared.width.Width.TheVariants.{One, Two, Four}
 use Rattle.x86_types.specs.Numbers.{size_of}
 use Rattle.x86_meaning.specs.Registers.{Registers, Naming}
 use Rattle.x86_meaning.specs.Operands.{Location, Operand, operand, field, value_in, values_in}
-use Rattle.x86_meaning.specs.Transfers.{Transfer, esp, down, register, constant, word_at, accumulator, upper_accumulator, move_transfer, combine_transfer, compare_transfer, update_transfer, set_transfer, read_transfer, is_same_register, alu_reads, alu_writes, alu_transfer, multiply_transfer, divide_transfer, multiply_by_transfer, shift_transfer, double_shift_transfer, exchange_transfer, movs_transfer, stos_transfer, transfer}
-use Rattle.x86_meaning.specs.Computing.{Outcome, raised_by, lowered_by, on_two, alu_computed, both_halves, goes_to, quotient_and_remainder, jump_computed, compute}
+use Rattle.x86_meaning.specs.TransferShapes.{Transfer, esp, down, register, constant, word_at, accumulator, upper_accumulator, move_transfer, combine_transfer, compare_transfer, update_transfer, set_transfer, read_transfer, is_same_register, alu_reads, alu_writes, alu_transfer, multiply_transfer, divide_transfer, multiply_by_transfer, shift_transfer, double_shift_transfer, exchange_transfer, movs_transfer, stos_transfer}
+use Rattle.x86_meaning.specs.Transfers.{transfer}
+use Rattle.x86_meaning.specs.Outcomes.{Outcome, raised_by, lowered_by, on_two, alu_computed, both_halves, goes_to, quotient_and_remainder, jump_computed}
+use Rattle.x86_meaning.specs.Computing.{compute}
 use Rattle.x86_meaning.proofs.TransferCases.{one, two, push, push_from, pop, pop_at, leave, movs, stos, string}
 
 -- as many values as operands, each operand of at most four bytes

@@ -20,3 +20,11 @@ pub mod ShiftRows
 pub mod DoubleShiftRows
 pub mod ScanRows
 pub mod ExtensionRows
+pub mod CopyRows
+pub mod StackRows
+pub mod ProcedureRows
+pub mod JumpRows
+pub mod StringRows
+pub mod ChoiceRows
+pub mod ConditionRows
+pub mod WrappingRows

@@ -13,7 +13,7 @@ use Rattle.memory.specs.SystemCall.{Called, Ends, Gives, system_call}
 use Rattle.x86_code.specs.Code.{Code}
 use Rattle.x86_meaning.specs.declared.stop.Stop.{Stop}
 use Rattle.x86_meaning.specs.declared.stop.Stop.TheVariants.{MemoryFault, DivideFault, Unspecified}
-use Rattle.x86_meaning.specs.Computing.{Way}
+use Rattle.x86_meaning.specs.Outcomes.{Way}
 use Rattle.x86_meaning.specs.Step.{State, settled, at_address, request_of, after_call, finish, performed, end_of, next}
 use Rattle.x86_meaning.specs.Run.{machine, run_from}
 use Rattle.x86_meaning.proofs.Cases.{settled_holds, finish_holds, step_holds, next_holds}

@@ -19,7 +19,8 @@ use Rattle.x86_types.specs.declared.width.Width.TheVariants.{One, Four}
 use Rattle.x86_types.specs.Numbers.{size_of}
 use Rattle.x86_meaning.specs.Registers.{Registers, Naming, with_register}
 use Rattle.x86_meaning.specs.Operands.{Location, InRegister, InMemory, Constant, Operand, address_part, address_sum, effective_address, location_of, source_of}
-use Rattle.x86_meaning.specs.Transfers.{Transfer, register, by_one, by_two, push_transfer, push_of, pop_transfer, pop_to, raised, up, leave_transfer, movs_transfer, stos_transfer, if_counted, string_transfer, transfer}
+use Rattle.x86_meaning.specs.TransferShapes.{Transfer, register, by_one, by_two, push_transfer, push_of, pop_transfer, pop_to, raised, up, leave_transfer, movs_transfer, stos_transfer, if_counted, string_transfer}
+use Rattle.x86_meaning.specs.Transfers.{transfer}
 use Rattle.x86_meaning.specs.LessSpecified.{RegistersLessSpecified}
 
 -- what is there on the left is the same on the right

@@ -22,4 +22,4 @@ shr_rows = record { by_one = refl; by_one_positive = refl; to_zero = refl; by_re
 
 pub sar_rows : SarRows
 unfolding word_of known cut number has_even_parity shifted shift put put_all allows_all bytes_at forget_below with_register transfer compute accesses effect settled finish step
-sar_rows = record { by_one = refl; by_one_positive = refl; by_register = refl; by_thirty_one = refl; below_width = refl; by_width = refl; above_width = refl; by_zero = refl; unspecified = refl; above_unspecified = refl; count_unspecified = refl; in_memory = refl; store_faults = refl; load_faults = refl; nowhere = refl }
+sar_rows = record { by_one = refl; by_one_positive = refl; by_register = refl; by_thirty_one = refl; below_width = refl; by_width = refl; above_width_negative = refl; above_width = refl; by_zero = refl; unspecified = refl; above_unspecified = refl; count_unspecified = refl; in_memory = refl; store_faults = refl; load_faults = refl; nowhere = refl }

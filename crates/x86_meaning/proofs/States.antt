@@ -14,7 +14,7 @@ use Rattle.memory.specs.Memory.{Place, Memory, Stored, put_all, store_all, forgo
 use Rattle.memory.specs.MemoryLaws.{MemoryLaws}
 use Rattle.memory.specs.SystemCall.{Called, Ends, Gives, system_call}
 use Rattle.x86_code.specs.Code.{Code}
-use Rattle.x86_meaning.specs.Computing.{Way}
+use Rattle.x86_meaning.specs.Outcomes.{Way}
 use Rattle.x86_meaning.specs.Step.{State, settled, at_address, request_of, after_call, finish, performed, next}
 use Rattle.x86_meaning.specs.Run.{start_over, start_of, IsStart}
 use Rattle.x86_meaning.specs.StepLaws.{IsForgotten}

@@ -20,8 +20,9 @@ use Rattle.x86_meaning.specs.declared.stop.Stop.{Stop}
 use Rattle.x86_meaning.specs.declared.stop.Stop.TheVariants.{MemoryFault, DivideFault, Unspecified}
 use Rattle.x86_meaning.specs.Registers.{Processor, machine_naming}
 use Rattle.x86_meaning.specs.Operands.{Location, InRegister, InMemory, Constant, Operand, Access, access, accesses_of}
-use Rattle.x86_meaning.specs.Transfers.{Transfer, transfer}
-use Rattle.x86_meaning.specs.Computing.{Way, Falls, JumpsBy, JumpsTo, Repeats, Calls}
+use Rattle.x86_meaning.specs.TransferShapes.{Transfer}
+use Rattle.x86_meaning.specs.Transfers.{transfer}
+use Rattle.x86_meaning.specs.Outcomes.{Way, Falls, JumpsBy, JumpsTo, Repeats, Calls}
 use Rattle.x86_meaning.specs.Effect.{Effect, transfer_accesses, accesses, effect_by, effect}
 use Rattle.x86_meaning.specs.Step.{State, access_allowed, all_allowed, settled_by, settled, at_address, request_of, with_result, after_call, finish, performed, by_stores, by_effect, by_loads, step, step_at, next}
 use Rattle.x86_meaning.specs.LessSpecified.{ProcessorLessSpecified, StateLessSpecified, MoveLessSpecified, EffectLessSpecified, ResultLessSpecified}

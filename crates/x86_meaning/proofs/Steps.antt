@@ -17,8 +17,10 @@ use Rattle.x86_types.specs.Numbers.{number_of_reg}
 use Rattle.x86_code.specs.Code.{Code}
 use Rattle.x86_meaning.specs.Registers.{Registers, Processor, Naming, with_register}
 use Rattle.x86_meaning.specs.Operands.{Location, InRegister, InMemory, Constant, Operand, Access, access, accesses_of}
-use Rattle.x86_meaning.specs.Transfers.{Transfer, transfer}
-use Rattle.x86_meaning.specs.Computing.{Outcome, compute}
+use Rattle.x86_meaning.specs.TransferShapes.{Transfer}
+use Rattle.x86_meaning.specs.Transfers.{transfer}
+use Rattle.x86_meaning.specs.Outcomes.{Outcome}
+use Rattle.x86_meaning.specs.Computing.{compute}
 use Rattle.x86_meaning.specs.Effect.{Effect, transfer_accesses, accesses, written, all_written, effect_of, effect_by, effect}
 use Rattle.x86_meaning.specs.Step.{State, at_address, settled, request_of, after_call, finish, step, step_at, next}
 use Rattle.x86_meaning.specs.StepLaws.{stored_range, store_ranges, with_moved}

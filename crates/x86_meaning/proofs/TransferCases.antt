@@ -3,7 +3,7 @@ use Rattle.std.proofs.Common.{ℕ, zero, suc, Bool, true, false, List, [], ◌�
 use Rattle.x86_types.specs.declared.width.Width.{Width}
 use Rattle.x86_types.specs.Numbers.{size_of}
 use Rattle.x86_meaning.specs.Operands.{Location, InMemory, Operand, operand}
-use Rattle.x86_meaning.specs.Transfers.{Transfer, transfer_of, no_transfer, by_one, by_two, esp, register, accumulator, word_at, down, push_transfer, push_of, pop_transfer, pop_to, leave_transfer, movs_transfer, stos_transfer, if_counted, string_transfer}
+use Rattle.x86_meaning.specs.TransferShapes.{Transfer, transfer_of, no_transfer, by_one, by_two, esp, register, accumulator, word_at, down, push_transfer, push_of, pop_transfer, pop_to, leave_transfer, movs_transfer, stos_transfer, if_counted, string_transfer}
 
 module _ (P : Option Transfer → Type 0) (none : P None) where
   pub one : (g : Location → Transfer) (o : Option Location) → ((a : Location) → P (Some (g a))) → P (by_one g o)

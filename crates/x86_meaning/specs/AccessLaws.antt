@@ -8,7 +8,7 @@ use Rattle.memory.specs.SystemCall.{Request}
 use Rattle.x86_types.specs.declared.instr.Instr.{Instr}
 use Rattle.x86_meaning.specs.Registers.{Processor, Naming, machine_naming}
 use Rattle.x86_meaning.specs.Operands.{Access}
-use Rattle.x86_meaning.specs.Computing.{Calls}
+use Rattle.x86_meaning.specs.Outcomes.{Calls}
 use Rattle.x86_meaning.specs.Effect.{Effect, accesses, effect}
 use Rattle.x86_meaning.specs.Step.{State, request_of, step}
 

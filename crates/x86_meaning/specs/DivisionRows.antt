@@ -51,7 +51,7 @@ pub record DivRows : Type 0 where
   pub upper_unspecified : see (Div Four (rm.Reg Ecx)) (words (word_of 5) (word_of 1) (unknown_highest 0) (word_of 0)) all_set 0 0 ≡ Ended Unspecified
   pub lower_unspecified : see (Div Four (rm.Reg Ecx)) (words (unknown_below 5) (word_of 1) (word_of 0) (word_of 0)) all_set 0 0 ≡ Ended Unspecified
   pub divisor_unspecified : see (Div Four (rm.Reg Ecx)) (words (word_of 5) (unknown_highest 1) (word_of 0) (word_of 0)) all_set 0 0 ≡ Ended Unspecified
-  -- that comes first where the divisor is 0
+  -- a divisor of 0 doesn't come before a dividend that isn't known
   pub unspecified_by_zero : see (Div Four (rm.Reg Ecx)) (words unknown (word_of 0) (word_of 0) (word_of 0)) all_set 0 0 ≡ Ended Unspecified
   -- bytes above the width: that of the dividend is kept, and that of the divisor and EDX aren't read
   pub above_unspecified : see (Div One (rm.Reg Ebx)) (words (unknown_highest 0x220105) (word_of 0) unknown (unknown_second 0x10)) all_set 0 0 ≡ Now (words (unknown_highest 0x220510) (word_of 0) unknown (unknown_second 0x10)) no_flags 0x3002 []

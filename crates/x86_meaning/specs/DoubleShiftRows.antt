@@ -20,8 +20,8 @@ pub record ShldRows : Type 0 where
   pub by_one_keeps_sign : see (Shld (rm.Reg Eax) Edx (count.Imm 1)) (registers 0xC0000000 0 0x80000000 0 0 0 0) all_set 0 0 ≡ Now (registers 0x80000001 0 0x80000000 0 0 0 0) (known_flags true false false true false) 0x3002 []
   -- 31: bit 1 of EAX leaves last, and the lowest bit of EDX alone doesn't enter
   pub by_thirty_one : see (Shld (rm.Reg Eax) Edx (count.Imm 31)) (registers 2 0 0xFFFFFFFF 0 0 0 0) all_cleared 0 0 ≡ Now (registers 0x7FFFFFFF 0 0xFFFFFFFF 0 0 0 0) (flags (Some true) (Some true) (Some false) (Some false) None) 0x3002 []
-  -- CL: 40 is 8; above CL nothing is read
-  pub by_register : see (Shld (rm.Reg Eax) Edx count.Cl) (words (word_of 0x12345678) (unknown_second 0x28) (word_of 0x9ABCDEF0) (word_of 0)) all_set 0 0 ≡ Now (words (word_of 0x3456789A) (unknown_second 0x28) (word_of 0x9ABCDEF0) (word_of 0)) (flags (Some false) (Some true) (Some false) (Some false) None) 0x3002 []
+  -- CL: 40 is 8, and bit 24 of EAX leaves last; above CL nothing is read
+  pub by_register : see (Shld (rm.Reg Eax) Edx count.Cl) (words (word_of 0x15345678) (unknown_second 0x28) (word_of 0x9ABCDEF0) (word_of 0)) all_set 0 0 ≡ Now (words (word_of 0x3456789A) (unknown_second 0x28) (word_of 0x9ABCDEF0) (word_of 0)) (flags (Some true) (Some true) (Some false) (Some false) None) 0x3002 []
   -- ECX fills, by its own lowest byte
   pub filler_counts : see (Shld (rm.Reg Eax) Ecx count.Cl) (registers 0 0x80000001 0 0 0 0 0) all_set 0 0 ≡ Now (registers 1 0x80000001 0 0 0 0 0) (known_flags false false false false false) 0x3002 []
   -- EAX, EAX rotates

@@ -9,8 +9,10 @@ use Rattle.x86_meaning.specs.declared.stop.Stop.{Stop}
 use Rattle.x86_meaning.specs.declared.stop.Stop.TheVariants.{Unspecified}
 use Rattle.x86_meaning.specs.Registers.{Registers, Processor, Naming, with_register, with_bytes}
 use Rattle.x86_meaning.specs.Operands.{Location, InRegister, InMemory, Constant, Operand, Access, accesses_of, values_in}
-use Rattle.x86_meaning.specs.Transfers.{Transfer, transfer}
-use Rattle.x86_meaning.specs.Computing.{Way, Outcome, compute}
+use Rattle.x86_meaning.specs.TransferShapes.{Transfer}
+use Rattle.x86_meaning.specs.Transfers.{transfer}
+use Rattle.x86_meaning.specs.Outcomes.{Way, Outcome}
+use Rattle.x86_meaning.specs.Computing.{compute}
 
 -- what an instruction does: the new registers and flags, the bytes that it stores, in order, and its way
 pub record Effect : Type 0 where

@@ -57,8 +57,8 @@ pub record MovsxRows : Type 0 where
   -- EAX, CX: the sign is bit 15, not bit 7, nor bit 31
   pub two_negative : see (Movsx Four Two Eax (rm.Reg Ecx)) (registers 0 0x11228000 0 0 0 0 0) all_set 0 0 ≡ Now (registers 0xFFFF8000 0x11228000 0 0 0 0 0) all_set 0x3002 []
   pub two_positive : see (Movsx Four Two Eax (rm.Reg Ecx)) (registers 0xFFFFFFFF 0xFFFF7FFF 0 0 0 0 0) all_set 0 0 ≡ Now (registers 0x7FFF 0xFFFF7FFF 0 0 0 0 0) all_set 0x3002 []
-  -- EAX, CH
-  pub of_second_byte : see (Movsx Four One Eax (rm.Reg Ebp)) (registers 0 0x8100 0 0 0 0 0) all_set 0 0 ≡ Now (registers 0xFFFFFF81 0x8100 0 0 0 0 0) all_set 0x3002 []
+  -- EBP, CH
+  pub of_second_byte : see (Movsx Four One Ebp (rm.Reg Ebp)) (registers 0 0x8100 0 0 0 0 0) all_set 0 0 ≡ Now (registers 0 0x8100 0 0 0xFFFFFF81 0 0) all_set 0x3002 []
   -- [EBX + ECX * 8 + 0xFFFFFFF7] is 0x10000100F, which wraps to the last byte that is mapped
   pub from_last_byte : see (Movsx Four One Eax (memory_by Ebx Ecx 8 0xFFFFFFF7)) (registers 0 3 0 0x1000 0 0 0) all_set 0 0 ≡ Now (registers 0xFFFFFFAF 3 0 0x1000 0 0 0) all_set 0x3002 []
   -- copies of a sign that isn't known

@@ -1,6 +1,8 @@
 pub mod Registers
 pub mod Operands
+pub mod TransferShapes
 pub mod Transfers
+pub mod Outcomes
 pub mod Computing
 pub mod Effect
 pub mod Step
@@ -24,3 +26,12 @@ pub mod ShiftRows
 pub mod DoubleShiftRows
 pub mod ScanRows
 pub mod ExtensionRows
+pub mod RowParts
+pub mod CopyRows
+pub mod StackRows
+pub mod ProcedureRows
+pub mod JumpRows
+pub mod StringRows
+pub mod ChoiceRows
+pub mod ConditionRows
+pub mod WrappingRows

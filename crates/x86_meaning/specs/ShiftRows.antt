@@ -88,6 +88,7 @@ pub record SarRows : Type 0 where
   -- AL by 7: bit 6 leaves last; by 8 and 20 a copy of the sign does
   pub below_width : see (Shift Sar One (rm.Reg Eax) (count.Imm 7)) (registers 0x11223380 0 0 0 0 0 0) all_set 0 0 ≡ Now (registers 0x112233FF 0 0 0 0 0 0) (flags (Some false) (Some true) (Some false) (Some true) None) 0x3002 []
   pub by_width : see (Shift Sar One (rm.Reg Eax) (count.Imm 8)) (registers 0x11223380 0 0 0 0 0 0) all_cleared 0 0 ≡ Now (registers 0x112233FF 0 0 0 0 0 0) (flags (Some true) (Some true) (Some false) (Some true) None) 0x3002 []
+  pub above_width_negative : see (Shift Sar One (rm.Reg Eax) (count.Imm 20)) (registers 0x11223380 0 0 0 0 0 0) all_cleared 0 0 ≡ Now (registers 0x112233FF 0 0 0 0 0 0) (flags (Some true) (Some true) (Some false) (Some true) None) 0x3002 []
   pub above_width : see (Shift Sar Two (rm.Reg Eax) (count.Imm 20)) (registers 0x11227FFF 0 0 0 0 0 0) all_set 0 0 ≡ Now (registers 0x11220000 0 0 0 0 0 0) (flags (Some false) (Some true) (Some true) (Some false) None) 0x3002 []
   pub by_zero : see (Shift Sar One (rm.Reg Esp) (count.Imm 32)) (words (unknown_second 0x11220044) (word_of 0) (word_of 0) (word_of 0)) all_set 0 0 ≡ Now (words (unknown_second 0x11220044) (word_of 0) (word_of 0) (word_of 0)) all_set 0x3002 []
   -- AH is unspecified, and AL is kept

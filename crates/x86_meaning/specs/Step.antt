@@ -11,7 +11,7 @@ use Rattle.x86_meaning.specs.declared.stop.Stop.{Stop}
 use Rattle.x86_meaning.specs.declared.stop.Stop.TheVariants as stop
 use Rattle.x86_meaning.specs.Registers.{Processor, with_register, machine_naming}
 use Rattle.x86_meaning.specs.Operands.{Access}
-use Rattle.x86_meaning.specs.Computing.{Way, Falls, JumpsBy, JumpsTo, Repeats, Calls}
+use Rattle.x86_meaning.specs.Outcomes.{Way, Falls, JumpsBy, JumpsTo, Repeats, Calls}
 use Rattle.x86_meaning.specs.Effect.{Effect, accesses, effect}
 
 pub record State : Type 0 where

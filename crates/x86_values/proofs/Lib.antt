@@ -25,3 +25,8 @@ pub mod DivisionLaws
 pub mod ProductRows
 pub mod DivisionRows
 pub mod ScanRows
+pub mod Powers
+pub mod ShiftsWithin
+pub mod ShiftsLess
+pub mod DoubleShiftsLess
+pub mod ShiftRows

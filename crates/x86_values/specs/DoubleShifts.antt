@@ -7,7 +7,7 @@ use Rattle.x86_values.specs.declared.word.Word.{Word}
 use Rattle.x86_values.specs.declared.word.Flags.{Flags}
 use Rattle.x86_values.specs.declared.answered.Answered.{Answered}
 use Rattle.x86_values.specs.Words.{known_byte}
-use Rattle.x86_values.specs.Sizes.{cut, number, full, is_negative}
+use Rattle.x86_values.specs.Sizes.{number, full, is_negative}
 use Rattle.x86_values.specs.Results.{differ, result_of, no_result}
 use Rattle.x86_values.specs.Shifts.{if_one}
 

@@ -1,7 +1,8 @@
 -- Shifts and rotates (Intel SDM volume 2, "SAL/SAR/SHL/SHR", "RCL/RCR/ROL/ROR"). The count is taken modulo 32, and 0 keeps the
 -- operand and all flags, whatever is unspecified. What an unspecified operand or count leaves unspecified, and that rotates by at
--- least the operand's bits leave CF and OF so, is own.
-use Rattle.std.specs.Prelude.{ℕ, ◌+◌, ◌-◌, ◌*◌, ◌/◌, ◌%◌, ◌^◌, ◌==◌, Bool, true, false, cond, ltb, Option, Some, None}
+-- least the operand's bits leave CF and OF so, is own. A result is taken modulo the range of the size, which changes it for no
+-- operand of the size: so the bytes above are 0 whatever the operand is.
+use Rattle.std.specs.Prelude.{ℕ, ◌+◌, ◌-◌, ◌*◌, ◌/◌, ◌%◌, ◌^◌, ◌==◌, Bool, false, cond, ltb, Option, Some, None}
 use Rattle.x86_types.specs.declared.operation.ShiftOp.{ShiftOp}
 use Rattle.x86_types.specs.declared.operation.ShiftOp.TheVariants.{Rol, Ror, Shl, Shr, Sar}
 use Rattle.x86_values.specs.declared.byte.Byte.{Byte}
@@ -31,17 +32,17 @@ abbrev pub filled : ℕ → ℕ → Bool → ℕ → ℕ
 filled size a fill c = a + full size * cond fill (2 ^ c - 1) 0
 
 abbrev pub right_shifted : ℕ → ℕ → Bool → ℕ → ℕ
-right_shifted size a fill c = filled size a fill c / 2 ^ c
+right_shifted size a fill c = filled size a fill c / 2 ^ c % full size
 
 abbrev pub right_out : ℕ → ℕ → Bool → ℕ → Bool
 right_out size a fill c = (filled size a fill c / 2 ^ (c - 1) % 2) == 1
 
 -- ---- rotates by r bits, fewer than the operand has: what leaves at one end enters at the other
 abbrev pub left_rotated : ℕ → ℕ → ℕ → ℕ
-left_rotated size a r = a * 2 ^ r % full size + a * 2 ^ r / full size
+left_rotated size a r = (a * 2 ^ r % full size + a * 2 ^ r / full size) % full size
 
 abbrev pub right_rotated : ℕ → ℕ → ℕ → ℕ
-right_rotated size a r = a / 2 ^ r + a % 2 ^ r * 2 ^ (bits size - r)
+right_rotated size a r = (a / 2 ^ r + a % 2 ^ r * 2 ^ (bits size - r)) % full size
 
 -- a rotate sets CF and OF alone
 abbrev pub rotated : ℕ → Option Bool → Option Bool → Flags → Answered

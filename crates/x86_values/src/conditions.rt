@@ -7,6 +7,7 @@ ghost use Rattle.x86_values.specs.Conditions as spec;
 ghost use Rattle.x86_values.specs.Results as results;
 
 use crate::Flags;
+use crate::result::differ;
 use x86_types::Cond;
 
 fn negated(flag: Option<bool>) -> Option<bool>
@@ -16,12 +17,6 @@ fn negated(flag: Option<bool>) -> Option<bool>
         Some(flag) => Some(!flag),
         None => None,
     }
-}
-
-fn differ(left: bool, right: bool) -> bool
-    ensures exact { result ≡ results.differ left right }
-{
-    left != right
 }
 
 // CF or ZF.

@@ -6,6 +6,13 @@ ghost use Rattle.x86_values.specs.Sizes.{IsSize};
 use crate::size::is_negative;
 use crate::{Answered, Flags, word_of};
 
+/// Whether exactly one of two bits is set.
+pub(crate) fn differ(left: bool, right: bool) -> bool
+    ensures exact { result ≡ spec.differ left right }
+{
+    left != right
+}
+
 // Whether the lowest byte of a number has an even number of ones.
 #[tactic(auto, unfolding(crate::specs::Results::has_even_parity))]
 fn has_even_parity(number: u32) -> bool

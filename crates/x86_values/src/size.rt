@@ -1,5 +1,5 @@
 // The lowest bytes of a word, and the numbers of a size.
-ghost use Rattle.std.specs.Prelude.{◌≡◌, cond};
+ghost use Rattle.std.specs.Prelude.{◌≡◌, ◌<◌, ◌≤◌, cond};
 ghost use Rattle.x86_values.specs.Results as results;
 ghost use Rattle.x86_values.specs.SizeRows.{WorkedCuts, WorkedNumbers, WorkedParities, WorkedSizes};
 ghost use Rattle.x86_values.specs.Sizes as spec;
@@ -26,6 +26,20 @@ pub(crate) fn half(size: u8) -> u64
     ensures exact { result ≡ spec.half size }
 {
     full(size) / 2
+}
+
+/// How many bits `size` bytes have.
+pub(crate) fn bits(size: u8) -> u8
+    requires size { IsSize size }
+    ensures exact { result ≡ spec.bits size }
+    ensures bound { result ≤ 32 }
+    ensures positive { 0 < result }
+{
+    match size {
+        1 => 8,
+        2 => 16,
+        _ => 32,
+    }
 }
 
 /// Whether a number of `size` bytes has its highest bit, its sign, set.

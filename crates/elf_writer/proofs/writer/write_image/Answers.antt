@@ -1,5 +1,5 @@
 use Rattle.std.proofs.Common.{◌≡◌, ◌+◌, ◌*◌, length, ap, ◌∙◌, arith}
-use Rattle.elf_image.specs.declared.refusal.Room.TheVariants.{Any}
+use Rattle.image.specs.declared.room.Room.TheVariants.{Any}
 use Rattle.elf_image.specs.Image.{image_of}
 use Rattle.elf_writer.specs.Written.{data_of}
 use Rattle.elf_writer.proofs.Accepted.{data_is_small, written_is_accepted}

@@ -1,25 +1,22 @@
 -- A header that passes the tests is that of a segment that has its place.
-use Rattle.std.proofs.Common.{◌≡◌, ℕ, ◌+◌, ◌-◌, ◌*◌, ◌%◌, ◌<◌, ◌≤◌, ◌==◌, ◌&&◌, Bool, true, false, cond, not, ltb, List, [], ◌∷◌, ◌++◌, length, take, drop, replicate, filter, refl, ap, ◌∙◌, arith, length-append}
+use Rattle.std.proofs.Common.{◌≡◌, ℕ, ◌+◌, ◌-◌, ◌*◌, ◌%◌, ◌<◌, ◌≤◌, ◌==◌, ◌&&◌, Bool, true, false, cond, not, ltb, List, [], ◌∷◌, length, take, replicate, filter, refl, ap, sym, subst, zero, suc, get_or, ◌∙◌, arith, length-append}
 use Rattle.std.specs.Prelude.{min}
 use Rattle.std.specs.List.{list_any, AllByRecursion}
 use Rattle.std.proofs.lemmas.List.{length-take, length-replicate}
 use Rattle.std.proofs.lemmas.Bool.{ltb-false, and_parts, or_parts, not-true, not-false}
 use Rattle.std.proofs.lemmas.Bool.Decides.{nat_tests}
 use Rattle.elf_image.specs.declared.header.ProgramHeader.{ProgramHeader}
-use Rattle.elf_image.specs.declared.refusal.Room.TheVariants.{Any}
+use Rattle.image.specs.declared.room.Room.TheVariants.{Any}
 use Rattle.image.specs.Addresses.{has}
 use Rattle.elf_image.specs.Pages.{is_segment, first_page, file_end_page, window, zeroed_from, page_bytes}
-use Rattle.elf_image.specs.Refusals.{room_end, is_too_small, is_forbidden, is_out_of_room}
+use Rattle.image.specs.Rooms.{room_end}
+use Rattle.elf_image.specs.Refusals.{is_too_small, is_forbidden, is_out_of_room}
+use Rattle.elf_image.specs.Sound.{IsSound}
 use Rattle.elf_image.specs.Image.{segment_of}
-use Rattle.elf_writer.specs.Wanted.{HasItsPlace}
+use Rattle.image.specs.Wanted.{HasItsPlace}
+use Rattle.elf_image.proofs.Windows.{length_window}
 
 -- ---- the length of a segment's bytes
-length_window : (file : List ℕ) (from n : ℕ) → length (window file from n) ≡ n
-length_window file from n =
-    let zeros : length {A = ℕ} (replicate n 0) ≡ n = length-replicate n 0 in
-    let long : length (drop from file ++ replicate n 0) ≡ length (drop from file) + length (replicate n 0) = length-append (drop from file) (replicate n 0) in
-    length-take n (drop from file ++ replicate n 0) ∙ omega (arith, zeros, long)
-
 length_zeroed : (k n : ℕ) (bytes : List ℕ) → length bytes ≡ n → length (zeroed_from k n bytes) ≡ n
 length_zeroed k n bytes e =
     let kept : length (take k bytes) ≡ min k (length bytes) = length-take k bytes in
@@ -37,12 +34,6 @@ length_page_bytes file h =
     length_either (ltb h.p_filesz h.p_memsz && has h.p_flags 2) _ _ n (length_zeroed (h.p_vaddr % 4096 + h.p_filesz) n _ window_long) window_long
 
 -- ---- a header that passes
-pub record IsSound (h : ProgramHeader) : Type 0 where
-  pub segment : is_segment h ≡ true
-  pub small : is_too_small h ≡ false
-  pub forbidden : is_forbidden h ≡ false
-  pub room : is_out_of_room (room_end Any) h ≡ false
-
 pub all_sound : (hs : List ProgramHeader) → AllByRecursion (λ h. is_segment h ≡ true) hs → list_any is_too_small hs ≡ false → list_any is_forbidden hs ≡ false
     → list_any (is_out_of_room (room_end Any)) hs ≡ false → AllByRecursion IsSound hs
 all_sound [] each a b c = tt
@@ -60,13 +51,13 @@ filter_each test (h ∷ hs) = step (test h) refl (filter_each test hs)
     step true e more = (e, more)
     step false e more = more
 
-pub length_filter : (test : ProgramHeader → Bool) (hs : List ProgramHeader) → length (filter test hs) ≤ length hs
-length_filter test [] = omega arith
-length_filter test (h ∷ hs) = step (test h) (length_filter test hs)
+pub sound_at : (hs : List ProgramHeader) (i : ℕ) (h : ProgramHeader) → AllByRecursion IsSound hs → i < length hs → h ≡ get_or hs i h → IsSound h
+sound_at hs i h each within is = subst IsSound (sym is) (at_place hs i h each within)
   where
-    step : (b : Bool) → length (filter test hs) ≤ length hs → length (cond b (h ∷ filter test hs) (filter test hs)) ≤ length (h ∷ hs)
-    step true e = omega arith
-    step false e = omega arith
+    at_place : (hs : List ProgramHeader) (i : ℕ) (d : ProgramHeader) → AllByRecursion IsSound hs → i < length hs → IsSound (get_or hs i d)
+    at_place [] i d each within = absurd (omega arith)
+    at_place (h ∷ hs) zero d each within = each.0
+    at_place (h ∷ hs) (suc i) d each within = at_place hs i d each.1 (omega arith)
 
 -- ---- its segment
 has_low : (n : ℕ) → (has (n % 8) 1 ≡ has n 1) × (has (n % 8) 2 ≡ has n 2) × (has (n % 8) 4 ≡ has n 4)
@@ -76,8 +67,8 @@ has_low n = (
   ap (λ (k : ℕ). k == 1) (omega arith),
 )
 
-pub runs_low : (n : ℕ) → has (n % 8) 1 ≡ has n 1
-runs_low n = (has_low n).0
+pub code_low : (n : ℕ) → has (n % 8) 1 ≡ has n 1
+code_low n = (has_low n).0
 
 some_memory : (file memory : ℕ) → (file == 0 && memory == 0) ≡ false → file ≤ memory → 0 < memory
 some_memory file memory e h = grind (arith, nat_tests)
