@@ -7,7 +7,7 @@ use Rattle.x86_values.specs.Words.{known, known_byte, with_number, all_known}
 use Rattle.x86_values.specs.LessSpecified.{ByteLessSpecified, BytesLessSpecified}
 use Rattle.x86_values.specs.LessSpecifiedLaws as values
 use Rattle.memory.specs.Memory.{Memory, AccessKind, Load, Store}
-use Rattle.memory.specs.SystemCall.{Request, Called, Ends, Gives, error, EBADF, EFAULT, passes, Refused, Asks, asks_known, writes, write_by, reads, read_call, write_call, exit_call, transfer, call_by, system_call}
+use Rattle.memory.specs.SystemCall.{Request, Called, Ends, Gives, error, EBADF, EFAULT, passes, Refused, Asks, asks_known, writes, write_by, reads, read_call, write_call, exit_call, transfer_call, call_by, system_call}
 use Rattle.memory.specs.LessSpecified.{MemoryLessSpecified, RequestLessSpecified, EndLessSpecified, CalledLessSpecified}
 use Rattle.memory.proofs.LessSpecified as less
 
@@ -78,7 +78,7 @@ module _ (laws : values.LessSpecifiedLaws) where
     unfolding write_call
     write_less fd at count = rw (same_passes m n same Load at count) (writes_less (fd == 1 || fd == 2) (count == 0) (passes Load n at count) _ _ fd left (all_stay _ _ (less.bytes m n at (min count cap) same)))
 
-    transfer_less : (call : ℕ → ℕ → ℕ → Memory → Environment → Called) → ((fd at count : ℕ) → CalledLessSpecified (call fd at count m left) (call fd at count n left)) → (fd at count fd2 at2 count2 : Option ℕ) → StaysKnown fd fd2 → StaysKnown at at2 → StaysKnown count count2 → CalledLessSpecified (transfer call fd at count m left) (transfer call fd2 at2 count2 n left)
+    transfer_less : (call : ℕ → ℕ → ℕ → Memory → Environment → Called) → ((fd at count : ℕ) → CalledLessSpecified (call fd at count m left) (call fd at count n left)) → (fd at count fd2 at2 count2 : Option ℕ) → StaysKnown fd fd2 → StaysKnown at at2 → StaysKnown count count2 → CalledLessSpecified (transfer_call call fd at count m left) (transfer_call call fd2 at2 count2 n left)
     transfer_less call h None at count fd2 at2 count2 p q r = tt
     transfer_less call h (Some fd) None count fd2 at2 count2 p q r = tt
     transfer_less call h (Some fd) (Some at) None fd2 at2 count2 p q r = tt

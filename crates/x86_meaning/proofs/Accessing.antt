@@ -10,7 +10,7 @@ use Rattle.memory.specs.SystemCall.{Request, Called, Ends, Gives, system_call}
 use Rattle.x86_types.specs.declared.instr.Instr.{Instr}
 use Rattle.x86_meaning.specs.declared.stop.Stop.{Stop}
 use Rattle.x86_meaning.specs.Registers.{Registers, Processor, Naming, machine_naming}
-use Rattle.x86_meaning.specs.Operands.{Location, InRegister, InMemory, Constant, Operand, Access, access, accesses_of, bytes_in, value_in, values_in}
+use Rattle.x86_meaning.specs.Operands.{Location, InRegister, InMemory, Constant, SizedOperand, Access, access, accesses_of, bytes_in, value_in, values_in}
 use Rattle.x86_meaning.specs.TransferShapes.{Transfer}
 use Rattle.x86_meaning.specs.Transfers.{transfer}
 use Rattle.x86_meaning.specs.Outcomes.{Way, Falls, JumpsBy, JumpsTo, Repeats, Calls}
@@ -30,7 +30,7 @@ module _ (laws : MemoryLaws) where
   operand_same size (InMemory at) more regs l m h = (laws.bytes_in_same l m at size h.0, h.1)
   operand_same size (Constant n) more regs l m h = (refl, h)
 
-  values_same : (os : List Operand) (regs : Registers) (l m : Memory) → SameLoads (accesses_of Load os) l m → values_in os regs l ≡ values_in os regs m
+  values_same : (os : List SizedOperand) (regs : Registers) (l m : Memory) → SameLoads (accesses_of Load os) l m → values_in os regs l ≡ values_in os regs m
   values_same [] regs l m h = refl
   values_same (o ∷ os) regs l m h =
       let first = operand_same o.size o.location (accesses_of Load os) regs l m h in

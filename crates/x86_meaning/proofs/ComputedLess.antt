@@ -29,7 +29,7 @@ use Rattle.x86_types.specs.declared.width.Width.{Width}
 use Rattle.x86_types.specs.declared.width.Width.TheVariants.{One, Two, Four}
 use Rattle.x86_types.specs.Numbers.{size_of}
 use Rattle.x86_meaning.specs.declared.stop.Stop.TheVariants.{MemoryFault, DivideFault, Unspecified}
-use Rattle.x86_meaning.specs.Outcomes.{Computed, Outcome, value_and_flags, flags_alone, values_alone, goes_to, on_one, on_two, on_three, raised_by, lowered_by, alu_computed, with_carry, both_halves, lower_half, quotient_and_remainder, chosen, picked, jump_computed, movs_computed, stos_computed}
+use Rattle.x86_meaning.specs.Outcomes.{Computed, Computation, value_and_flags, flags_alone, values_alone, goes_to, on_one, on_two, on_three, raised_by, lowered_by, alu_computed, with_carry, both_halves, lower_half, quotient_and_remainder, chosen, picked, jump_computed, movs_computed, stos_computed}
 use Rattle.x86_meaning.specs.Computing.{compute}
 use Rattle.x86_meaning.proofs.SameTransfers.{SameWhere, known_same}
 
@@ -57,7 +57,7 @@ pub record ComputedLess (c d : Computed) : Type 0 where
   pub flags : FlagsLessSpecified c.flags d.flags
   pub way : c.way ≡ d.way
 
-abbrev pub OutcomeLess : Outcome → Outcome → Type 0
+abbrev pub OutcomeLess : Computation → Computation → Type 0
 OutcomeLess (Ok c) (Ok d) = ComputedLess c d
 OutcomeLess (Ok c) (Err x) = ⊥
 OutcomeLess (Err Unspecified) r = Unit {0}
@@ -99,14 +99,14 @@ jump_less (Some true) u by f g h k = rw h (record { values = refl; flags = k; wa
 jump_less (Some false) u by f g h k = rw h (record { values = refl; flags = k; way = refl })
 
 -- ---- by how many operands
-one_less : (f g : Word → Outcome) → ((x u : Word) → WordLessSpecified x u → OutcomeLess (f x) (g u)) → (xs us : List Word) → WordsLessSpecified xs us → OutcomeLess (on_one f xs) (on_one g us)
+one_less : (f g : Word → Computation) → ((x u : Word) → WordLessSpecified x u → OutcomeLess (f x) (g u)) → (xs us : List Word) → WordsLessSpecified xs us → OutcomeLess (on_one f xs) (on_one g us)
 one_less f g h [] us k = tt
 one_less f g h (x ∷ []) [] k = absurd k
 one_less f g h (x ∷ []) (u ∷ []) k = h x u k.0
 one_less f g h (x ∷ []) (u ∷ v ∷ us) k = absurd cc
 one_less f g h (x ∷ y ∷ xs) us k = tt
 
-two_less : (f g : Word → Word → Outcome) → ((x u y v : Word) → WordLessSpecified x u → WordLessSpecified y v → OutcomeLess (f x y) (g u v)) → (xs us : List Word) → WordsLessSpecified xs us → OutcomeLess (on_two f xs) (on_two g us)
+two_less : (f g : Word → Word → Computation) → ((x u y v : Word) → WordLessSpecified x u → WordLessSpecified y v → OutcomeLess (f x y) (g u v)) → (xs us : List Word) → WordsLessSpecified xs us → OutcomeLess (on_two f xs) (on_two g us)
 two_less f g h [] us k = tt
 two_less f g h (x ∷ []) us k = tt
 two_less f g h (x ∷ y ∷ []) [] k = absurd k
@@ -115,7 +115,7 @@ two_less f g h (x ∷ y ∷ []) (u ∷ v ∷ []) k = h x u y v k.0 k.1.0
 two_less f g h (x ∷ y ∷ []) (u ∷ v ∷ w ∷ us) k = absurd (let e : w ∷ us ≡ [] = k.1.1 in cc)
 two_less f g h (x ∷ y ∷ z ∷ xs) us k = tt
 
-three_less : (f g : Word → Word → Word → Outcome) → ((x u y v z w : Word) → WordLessSpecified x u → WordLessSpecified y v → WordLessSpecified z w → OutcomeLess (f x y z) (g u v w)) → (xs us : List Word) → WordsLessSpecified xs us → OutcomeLess (on_three f xs) (on_three g us)
+three_less : (f g : Word → Word → Word → Computation) → ((x u y v z w : Word) → WordLessSpecified x u → WordLessSpecified y v → WordLessSpecified z w → OutcomeLess (f x y z) (g u v w)) → (xs us : List Word) → WordsLessSpecified xs us → OutcomeLess (on_three f xs) (on_three g us)
 three_less f g h [] us k = tt
 three_less f g h (x ∷ []) us k = tt
 three_less f g h (x ∷ y ∷ []) us k = tt

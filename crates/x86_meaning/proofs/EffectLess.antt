@@ -11,10 +11,10 @@ use Rattle.memory.specs.LessSpecifiedLaws.{LessSpecifiedMemoryLaws}
 use Rattle.x86_types.specs.declared.instr.Instr.{Instr}
 use Rattle.x86_meaning.specs.declared.stop.Stop.TheVariants.{MemoryFault, DivideFault, Unspecified}
 use Rattle.x86_meaning.specs.Registers.{Registers, Processor, Naming, with_bytes}
-use Rattle.x86_meaning.specs.Operands.{Location, InRegister, InMemory, Constant, Operand, word_if, bytes_in, values_in}
+use Rattle.x86_meaning.specs.Operands.{Location, InRegister, InMemory, Constant, SizedOperand, word_if, bytes_in, values_in}
 use Rattle.x86_meaning.specs.TransferShapes.{Transfer}
-use Rattle.x86_meaning.specs.Outcomes.{Outcome}
-use Rattle.x86_meaning.specs.Effect.{Effect, written, all_written, effect_of, effect_by, effect}
+use Rattle.x86_meaning.specs.Outcomes.{Computation}
+use Rattle.x86_meaning.specs.Effect.{Effect, written_to, all_written, effect_of, effect_by, effect}
 use Rattle.x86_meaning.specs.LessSpecified.{RegistersLessSpecified, ProcessorLessSpecified, EffectLessSpecified, ResultLessSpecified}
 use Rattle.x86_meaning.proofs.SameTransfers.{SameWhere, SameLocation, SameOperands, SameTransfer, set_less, transfer_same}
 use Rattle.x86_meaning.proofs.ComputedLess.{ValueLaws, WordsLessSpecified, OutcomeLess, compute_less}
@@ -84,7 +84,7 @@ module _ (laws : ValueLaws) (memories : LessSpecifiedMemoryLaws) where
   bytes_less size (Constant a) (InRegister p i) r q m n e h j = absurd e
   bytes_less size (Constant a) (InMemory at) r q m n e h j = absurd e
 
-  values_less : (os ps : List Operand) (r q : Registers) (m n : Memory) → SameOperands os ps → RegistersLessSpecified r q → MemoryLessSpecified m n → WordsLessSpecified (values_in os r m) (values_in ps q n)
+  values_less : (os ps : List SizedOperand) (r q : Registers) (m n : Memory) → SameOperands os ps → RegistersLessSpecified r q → MemoryLessSpecified m n → WordsLessSpecified (values_in os r m) (values_in ps q n)
   values_less [] ps r q m n e h j = rw e refl
   values_less (o ∷ os) [] r q m n e h j = absurd e
   values_less (o ∷ os) (p ∷ ps) r q m n e h j = (padded_less _ _ (sized o.size p.size e.0), values_less os ps r q m n e.2 h j)
@@ -97,7 +97,7 @@ module _ (laws : ValueLaws) (memories : LessSpecifiedMemoryLaws) where
   part_less i bs cs x u h k =
       padded_less _ _ (bytes_joined _ _ _ _ (bytes_taken i _ _ (listed x u k)) (bytes_joined bs cs _ _ h (rw (same_length bs cs h) (bytes_dropped (i + length cs) _ _ (listed x u k)))))
 
-  written_less : (size : ℕ) (l : Location) (x u : Word) (d e : Effect) → WordLessSpecified x u → EffectLessSpecified d e → EffectLessSpecified (written size l x d) (written size l u e)
+  written_less : (size : ℕ) (l : Location) (x u : Word) (d e : Effect) → WordLessSpecified x u → EffectLessSpecified d e → EffectLessSpecified (written_to size l x d) (written_to size l u e)
   written_less size (InRegister p i) x u d e h k = record {
     cpu = record { regs = set_less laws.less laws.words p _ _ _ _ (part_less i _ _ _ _ (bytes_taken size _ _ (listed x u h)) (k.cpu.regs p)) k.cpu.regs; flags = k.cpu.flags };
     stores = k.stores;
@@ -106,14 +106,14 @@ module _ (laws : ValueLaws) (memories : LessSpecifiedMemoryLaws) where
   written_less size (InMemory at) x u d e h k = record { cpu = k.cpu; stores = stores_joined _ _ _ _ k.stores (refl, bytes_taken size _ _ (listed x u h), refl); way = k.way }
   written_less size (Constant n) x u d e h k = k
 
-  all_written_less : (os : List Operand) (xs us : List Word) (d e : Effect) → WordsLessSpecified xs us → EffectLessSpecified d e → EffectLessSpecified (all_written os xs d) (all_written os us e)
+  all_written_less : (os : List SizedOperand) (xs us : List Word) (d e : Effect) → WordsLessSpecified xs us → EffectLessSpecified d e → EffectLessSpecified (all_written os xs d) (all_written os us e)
   all_written_less [] xs us d e h k = k
   all_written_less (o ∷ os) [] us d e h k = rw h k
   all_written_less (o ∷ os) (x ∷ xs) [] d e h k = absurd h
   all_written_less (o ∷ os) (x ∷ xs) (u ∷ us) d e h k = all_written_less os xs us _ _ h.1 (written_less o.size o.location x u d e h.0 k)
 
   -- ---- the effect
-  outcome_less : (writes : List Operand) (r q : Registers) (x y : Outcome) → OutcomeLess x y → RegistersLessSpecified r q → ResultLessSpecified (effect_of writes r x) (effect_of writes q y)
+  outcome_less : (writes : List SizedOperand) (r q : Registers) (x y : Computation) → OutcomeLess x y → RegistersLessSpecified r q → ResultLessSpecified (effect_of writes r x) (effect_of writes q y)
   outcome_less writes r q (Ok c) (Ok d) h k = all_written_less writes c.values d.values _ _ h.values (record { cpu = record { regs = k; flags = h.flags }; stores = refl; way = h.way })
   outcome_less writes r q (Ok c) (Err x) h k = absurd h
   outcome_less writes r q (Err Unspecified) y h k = tt

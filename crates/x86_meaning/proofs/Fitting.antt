@@ -17,22 +17,22 @@ use Rattle.x86_types.specs.declared.width.Width.{Width}
 use Rattle.x86_types.specs.declared.width.Width.TheVariants.{One, Two, Four}
 use Rattle.x86_types.specs.Numbers.{size_of}
 use Rattle.x86_meaning.specs.Registers.{Registers, Naming}
-use Rattle.x86_meaning.specs.Operands.{Location, Operand, operand, field, value_in, values_in}
-use Rattle.x86_meaning.specs.TransferShapes.{Transfer, esp, down, register, constant, word_at, accumulator, upper_accumulator, move_transfer, combine_transfer, compare_transfer, update_transfer, set_transfer, read_transfer, is_same_register, alu_reads, alu_writes, alu_transfer, multiply_transfer, divide_transfer, multiply_by_transfer, shift_transfer, double_shift_transfer, exchange_transfer, movs_transfer, stos_transfer}
+use Rattle.x86_meaning.specs.Operands.{Location, SizedOperand, operand, field, value_in, values_in}
+use Rattle.x86_meaning.specs.TransferShapes.{Transfer, esp, down, register, constant, stack_word, accumulator, upper_accumulator, move_transfer, combine_transfer, compare_transfer, update_transfer, set_transfer, read_transfer, is_same_register, alu_reads, alu_writes, alu_transfer, multiply_transfer, divide_transfer, multiply_by_transfer, shift_transfer, double_shift_transfer, exchange_transfer, movs_transfer, stos_transfer}
 use Rattle.x86_meaning.specs.Transfers.{transfer}
-use Rattle.x86_meaning.specs.Outcomes.{Outcome, raised_by, lowered_by, on_two, alu_computed, both_halves, goes_to, quotient_and_remainder, jump_computed}
+use Rattle.x86_meaning.specs.Outcomes.{Computation, raised_by, lowered_by, on_two, alu_computed, both_halves, goes_to, quotient_and_remainder, jump_computed}
 use Rattle.x86_meaning.specs.Computing.{compute}
 use Rattle.x86_meaning.proofs.TransferCases.{one, two, push, push_from, pop, pop_at, leave, movs, stos, string}
 
 -- as many values as operands, each operand of at most four bytes
-abbrev pub Fits : List Operand → List Word → Type 0
+abbrev pub Fits : List SizedOperand → List Word → Type 0
 Fits [] [] = Unit {0}
 Fits [] (w ∷ ws) = ⊥
 Fits (o ∷ os) [] = ⊥
 Fits (o ∷ os) (w ∷ ws) = (o.size ≤ 4) × Fits os ws
 
 -- so does an outcome, where it is one of values
-abbrev pub OutcomeFits : List Operand → Outcome → Type 0
+abbrev pub OutcomeFits : List SizedOperand → Computation → Type 0
 OutcomeFits writes (Err x) = Unit {0}
 OutcomeFits writes (Ok c) = Fits writes c.values
 
@@ -48,7 +48,7 @@ small Four = omega arith
 four : 4 ≤ 4
 four = omega arith
 
-target_fits : (writes : List Operand) (values : List Word) (o : Option ℕ) (f : Flags) → Fits writes values → OutcomeFits writes (goes_to values o f)
+target_fits : (writes : List SizedOperand) (values : List Word) (o : Option ℕ) (f : Flags) → Fits writes values → OutcomeFits writes (goes_to values o f)
 target_fits writes values None f h = tt
 target_fits writes values (Some a) f h = h
 
@@ -57,12 +57,12 @@ jump_fits None by f = tt
 jump_fits (Some true) by f = tt
 jump_fits (Some false) by f = tt
 
-either_reads : (P : List Operand → Type 0) (b : Bool) (xs ys : List Operand) → P xs → P ys → P (cond b xs ys)
+either_reads : (P : List SizedOperand → Type 0) (b : Bool) (xs ys : List SizedOperand) → P xs → P ys → P (cond b xs ys)
 either_reads P true xs ys h k = h
 either_reads P false xs ys h k = k
 
 -- both operands of an operation that cancels may be constants
-cancelled_fits : (op : AluOp) (w : Width) (to from : Location) (f : Flags) (regs : Registers) (m : Memory) (b : Bool) (writes : List Operand) → ((x y : Word) → OutcomeFits writes (alu_computed op (size_of w) f x y))
+cancelled_fits : (op : AluOp) (w : Width) (to from : Location) (f : Flags) (regs : Registers) (m : Memory) (b : Bool) (writes : List SizedOperand) → ((x y : Word) → OutcomeFits writes (alu_computed op (size_of w) f x y))
     → OutcomeFits writes (on_two (alu_computed op (size_of w) f) (values_in (cond b (constant (size_of w) 0 ∷ constant (size_of w) 0 ∷ []) (operand (size_of w) to ∷ operand (size_of w) from ∷ [])) regs m))
 cancelled_fits op w to from f regs m b writes h = either_reads (λ xs. OutcomeFits writes (on_two (alu_computed op (size_of w) f) (values_in xs regs m))) b _ _ (h _ _) (h _ _)
 
@@ -128,10 +128,10 @@ transfer_fits v (instr.Stos w repeat) n f regs m =
     string P tt repeat _ (stos_transfer w (known (regs 7))) (stos P tt w _ [] (λ a. (small w, (four, tt)))) tt (stos P tt w _ (register 4 1 ∷ []) (λ a. (small w, (four, (four, tt)))))
 transfer_fits v (instr.Jmp by) n f regs m = tt
 transfer_fits v (instr.JmpTo to) n f regs m = one (λ t. TransferFits t (instr.JmpTo to) n f regs m) tt (read_transfer 4) _ (λ a. target_fits [] [] (known (value_in (operand 4 a) regs m)) f tt)
-transfer_fits v (instr.CallTo to) n f regs m = push_from (λ t. TransferFits t (instr.CallTo to) n f regs m) tt _ _ (λ a at. target_fits (word_at (down 4 at) ∷ esp ∷ []) (word_of n ∷ lowered_by 4 (value_in esp regs m) ∷ []) (known (value_in (operand 4 a) regs m)) f (four, (four, tt)))
+transfer_fits v (instr.CallTo to) n f regs m = push_from (λ t. TransferFits t (instr.CallTo to) n f regs m) tt _ _ (λ a at. target_fits (stack_word (down 4 at) ∷ esp ∷ []) (word_of n ∷ lowered_by 4 (value_in esp regs m) ∷ []) (known (value_in (operand 4 a) regs m)) f (four, (four, tt)))
 transfer_fits v (instr.Jcc c by) n f regs m = jump_fits (condition c f) by f
 transfer_fits v (instr.Call by) n f regs m = push (λ t. TransferFits t (instr.Call by) n f regs m) tt [] _ (λ at. (four, (four, tt)))
-transfer_fits v (instr.Ret drop) n f regs m = pop (λ t. TransferFits t (instr.Ret drop) n f regs m) tt [] _ (λ at. target_fits (esp ∷ []) (raised_by (4 + drop) (value_in esp regs m) ∷ []) (known (value_in (word_at at) regs m)) f (four, tt))
+transfer_fits v (instr.Ret drop) n f regs m = pop (λ t. TransferFits t (instr.Ret drop) n f regs m) tt [] _ (λ at. target_fits (esp ∷ []) (raised_by (4 + drop) (value_in esp regs m) ∷ []) (known (value_in (stack_word at) regs m)) f (four, tt))
 transfer_fits v instr.Leave n f regs m = leave (λ t. TransferFits t instr.Leave n f regs m) tt _ (λ at. (four, (four, tt)))
 transfer_fits v instr.Int80 n f regs m = tt
 transfer_fits v instr.Cld n f regs m = tt

@@ -18,8 +18,8 @@ use Rattle.x86_types.specs.declared.width.Width.{Width}
 use Rattle.x86_types.specs.declared.width.Width.TheVariants.{One, Four}
 use Rattle.x86_types.specs.Numbers.{size_of}
 use Rattle.x86_meaning.specs.Registers.{Registers, Naming, with_register}
-use Rattle.x86_meaning.specs.Operands.{Location, InRegister, InMemory, Constant, Operand, address_part, address_sum, effective_address, location_of, source_of}
-use Rattle.x86_meaning.specs.TransferShapes.{Transfer, register, by_one, by_two, push_transfer, push_of, pop_transfer, pop_to, raised, up, leave_transfer, movs_transfer, stos_transfer, if_counted, string_transfer}
+use Rattle.x86_meaning.specs.Operands.{Location, InRegister, InMemory, Constant, SizedOperand, address_part, address_sum, effective_address, location_of, source_of}
+use Rattle.x86_meaning.specs.TransferShapes.{Transfer, register, by_one, by_two, push_transfer, push_of, pop_transfer, pop_to, esp_raised, up, leave_transfer, movs_transfer, stos_transfer, if_counted, string_transfer}
 use Rattle.x86_meaning.specs.Transfers.{transfer}
 use Rattle.x86_meaning.specs.LessSpecified.{RegistersLessSpecified}
 
@@ -45,12 +45,12 @@ location_itself (InRegister p i) = refl
 location_itself (InMemory at) = refl
 location_itself (Constant a) = same_itself a
 
-abbrev pub SameOperands : List Operand → List Operand → Type 0
+abbrev pub SameOperands : List SizedOperand → List SizedOperand → Type 0
 SameOperands [] ps = ps ≡ []
 SameOperands (o ∷ os) [] = ⊥
 SameOperands (o ∷ os) (p ∷ ps) = (o.size ≡ p.size) × SameLocation o.location p.location × SameOperands os ps
 
-operands_themselves : (os : List Operand) → SameOperands os os
+operands_themselves : (os : List SizedOperand) → SameOperands os os
 operands_themselves [] = refl
 operands_themselves (o ∷ os) = (refl, location_itself o.location, operands_themselves os)
 
@@ -76,7 +76,7 @@ two_same g None u p q h k = tt
 two_same g (Some a) u None q h k = tt
 two_same g (Some a) u (Some b) q h k = rw (h, k) refl
 
-push_same : (reads : List Operand) (d e : Option ℕ) → SameWhere d e → SameWhere (push_transfer reads d) (push_transfer reads e)
+push_same : (reads : List SizedOperand) (d e : Option ℕ) → SameWhere d e → SameWhere (push_transfer reads d) (push_transfer reads e)
 push_same reads None e h = tt
 push_same reads (Some at) e h = ap (push_transfer reads) h
 
@@ -85,7 +85,7 @@ push_of_same None u d e h k = tt
 push_of_same (Some a) u None e h k = tt
 push_of_same (Some a) u (Some at) e h k = rw (h, k) refl
 
-pop_same : (writes : List Operand) (d e : Option ℕ) → SameWhere d e → SameWhere (pop_transfer writes d) (pop_transfer writes e)
+pop_same : (writes : List SizedOperand) (d e : Option ℕ) → SameWhere d e → SameWhere (pop_transfer writes d) (pop_transfer writes e)
 pop_same writes None e h = tt
 pop_same writes (Some at) e h = ap (pop_transfer writes) h
 
@@ -98,12 +98,12 @@ leave_same : (d e : Option ℕ) → SameWhere d e → SameWhere (leave_transfer 
 leave_same None e h = tt
 leave_same (Some at) e h = ap leave_transfer h
 
-movs_same : (size : ℕ) (a b c d : Option ℕ) (more : List Operand) → SameWhere a b → SameWhere c d → SameWhere (movs_transfer size a c more) (movs_transfer size b d more)
+movs_same : (size : ℕ) (a b c d : Option ℕ) (more : List SizedOperand) → SameWhere a b → SameWhere c d → SameWhere (movs_transfer size a c more) (movs_transfer size b d more)
 movs_same size None b c d more h k = tt
 movs_same size (Some n) b None d more h k = tt
 movs_same size (Some n) b (Some m) d more h k = rw (h, k) refl
 
-stos_same : (w : Width) (d e : Option ℕ) (more : List Operand) → SameWhere d e → SameWhere (stos_transfer w d more) (stos_transfer w e more)
+stos_same : (w : Width) (d e : Option ℕ) (more : List SizedOperand) → SameWhere d e → SameWhere (stos_transfer w d more) (stos_transfer w e more)
 stos_same w None e more h = tt
 stos_same w (Some at) e more h = rw h refl
 
@@ -112,7 +112,7 @@ counted_same None d t u h k = tt
 counted_same (Some zero) d t u h k = rw h refl
 counted_same (Some (suc n)) d t u h k = rw h k
 
-string_same : (repeat : Bool) (c d : Option ℕ) (f g : List Operand → Option Transfer) → SameWhere c d → ((more : List Operand) → SameWhere (f more) (g more)) → SameWhere (string_transfer repeat c f) (string_transfer repeat d g)
+string_same : (repeat : Bool) (c d : Option ℕ) (f g : List SizedOperand → Option Transfer) → SameWhere c d → ((more : List SizedOperand) → SameWhere (f more) (g more)) → SameWhere (string_transfer repeat c f) (string_transfer repeat d g)
 string_same false c d f g h k = k []
 string_same true c d f g h k = counted_same c d (f (register 4 1 ∷ [])) (g (register 4 1 ∷ [])) h (k (register 4 1 ∷ []))
 
@@ -158,21 +158,21 @@ module _ (less : LessSpecifiedLaws) (words : WordLaws) where
   unfolding with_register
   set_less n x u r q h k j = either_less _ x (r j) u (q j) h (k j)
 
-  raised_less : (o u : Option ℕ) (r q : Registers) → SameWhere o u → RegistersLessSpecified r q → ((at : ℕ) → o ≡ Some at → RegistersLessSpecified (raised o r) (raised u q))
+  raised_less : (o u : Option ℕ) (r q : Registers) → SameWhere o u → RegistersLessSpecified r q → ((at : ℕ) → o ≡ Some at → RegistersLessSpecified (esp_raised o r) (esp_raised u q))
   raised_less o u r q h k at e = go o e h
     where
-      go : (o : Option ℕ) → o ≡ Some at → SameWhere o u → RegistersLessSpecified (raised o r) (raised u q)
+      go : (o : Option ℕ) → o ≡ Some at → SameWhere o u → RegistersLessSpecified (esp_raised o r) (esp_raised u q)
       go None e h = absurd cc
       go (Some a) e h = rw h (set_less 4 (word_of (up 4 a)) (word_of (up 4 a)) r q (less.itself (word_of (up 4 a)) (words.word_of_bytes (up 4 a))) k)
 
   -- POP: where esp isn't known nothing is read, whatever the target
-  pop_all : (v : Naming) (r q : Registers) (to : Rm) (o u : Option ℕ) → SameWhere o u → RegistersLessSpecified r q → SameWhere (pop_to (location_of v (raised o r) Four to) o) (pop_to (location_of v (raised u q) Four to) u)
+  pop_all : (v : Naming) (r q : Registers) (to : Rm) (o u : Option ℕ) → SameWhere o u → RegistersLessSpecified r q → SameWhere (pop_to (location_of v (esp_raised o r) Four to) o) (pop_to (location_of v (esp_raised u q) Four to) u)
   pop_all v r q to None u h k = none (location_of v r Four to)
     where
-      none : (l : Option Location) → SameWhere (pop_to l None) (pop_to (location_of v (raised u q) Four to) u)
+      none : (l : Option Location) → SameWhere (pop_to l None) (pop_to (location_of v (esp_raised u q) Four to) u)
       none None = tt
       none (Some a) = tt
-  pop_all v r q to (Some at) u h k = pop_to_same _ _ (Some at) u (location_same v (raised (Some at) r) (raised u q) Four to (raised_less (Some at) u r q h k at refl)) h
+  pop_all v r q to (Some at) u h k = pop_to_same _ _ (Some at) u (location_same v (esp_raised (Some at) r) (esp_raised u q) Four to (raised_less (Some at) u r q h k at refl)) h
 
   module _ (v : Naming) (r q : Registers) (h : RegistersLessSpecified r q) where
     reg_same : (n : ℕ) → SameWhere (known (r n)) (known (q n))

@@ -19,7 +19,7 @@ use Rattle.x86_code.specs.Code.{Code}
 use Rattle.x86_meaning.specs.declared.stop.Stop.{Stop}
 use Rattle.x86_meaning.specs.declared.stop.Stop.TheVariants.{MemoryFault, DivideFault, Unspecified}
 use Rattle.x86_meaning.specs.Registers.{Processor, machine_naming}
-use Rattle.x86_meaning.specs.Operands.{Location, InRegister, InMemory, Constant, Operand, Access, access, accesses_of}
+use Rattle.x86_meaning.specs.Operands.{Location, InRegister, InMemory, Constant, SizedOperand, Access, access, accesses_of}
 use Rattle.x86_meaning.specs.TransferShapes.{Transfer}
 use Rattle.x86_meaning.specs.Transfers.{transfer}
 use Rattle.x86_meaning.specs.Outcomes.{Way, Falls, JumpsBy, JumpsTo, Repeats, Calls}
@@ -38,7 +38,7 @@ access_same kind size (Constant a) (Constant b) xs ys h e = e
 access_same kind size (Constant a) (InRegister p i) xs ys h e = absurd h
 access_same kind size (Constant a) (InMemory at) xs ys h e = absurd h
 
-accesses_same : (kind : AccessKind) (os ps : List Operand) → SameOperands os ps → accesses_of kind os ≡ accesses_of kind ps
+accesses_same : (kind : AccessKind) (os ps : List SizedOperand) → SameOperands os ps → accesses_of kind os ≡ accesses_of kind ps
 accesses_same kind [] ps h = rw h refl
 accesses_same kind (o ∷ os) [] h = absurd h
 accesses_same kind (o ∷ os) (p ∷ ps) h = rw h.0 (access_same kind p.size o.location p.location _ _ h.1 (accesses_same kind os ps h.2))

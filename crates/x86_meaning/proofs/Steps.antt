@@ -16,12 +16,12 @@ use Rattle.x86_types.specs.declared.instr.Instr.TheVariants as instr
 use Rattle.x86_types.specs.Numbers.{number_of_reg}
 use Rattle.x86_code.specs.Code.{Code}
 use Rattle.x86_meaning.specs.Registers.{Registers, Processor, Naming, with_register}
-use Rattle.x86_meaning.specs.Operands.{Location, InRegister, InMemory, Constant, Operand, Access, access, accesses_of}
+use Rattle.x86_meaning.specs.Operands.{Location, InRegister, InMemory, Constant, SizedOperand, Access, access, accesses_of}
 use Rattle.x86_meaning.specs.TransferShapes.{Transfer}
 use Rattle.x86_meaning.specs.Transfers.{transfer}
-use Rattle.x86_meaning.specs.Outcomes.{Outcome}
+use Rattle.x86_meaning.specs.Outcomes.{Computation}
 use Rattle.x86_meaning.specs.Computing.{compute}
-use Rattle.x86_meaning.specs.Effect.{Effect, transfer_accesses, accesses, written, all_written, effect_of, effect_by, effect}
+use Rattle.x86_meaning.specs.Effect.{Effect, transfer_accesses, accesses, written_to, all_written, effect_of, effect_by, effect}
 use Rattle.x86_meaning.specs.Step.{State, at_address, settled, request_of, after_call, finish, step, step_at, next}
 use Rattle.x86_meaning.specs.StepLaws.{stored_range, store_ranges, with_moved}
 use Rattle.x86_meaning.proofs.Fitting.{Fits, OutcomeFits, TransferFits, transfer_fits}
@@ -68,13 +68,13 @@ joined_access kind size (InRegister p i) more rest = refl
 joined_access kind size (InMemory at) more rest = refl
 joined_access kind size (Constant n) more rest = refl
 
-no_stores : (os : List Operand) (more : List Access) → store_ranges (accesses_of Load os ++ more) ≡ store_ranges more
+no_stores : (os : List SizedOperand) (more : List Access) → store_ranges (accesses_of Load os ++ more) ≡ store_ranges more
 no_stores [] more = refl
 no_stores (o ∷ os) more =
     ap store_ranges (joined_access Load o.size o.location (accesses_of Load os) more) ∙ load_ranges o.size o.location (accesses_of Load os ++ more) ∙ no_stores os more
 
 -- the ranges of an operand that is written
-written_ranges : (size : ℕ) (l : Location) (w : Word) (e : Effect) (more : List Access) → size ≤ 4 → map stored_range (written size l w e).stores ++ store_ranges more ≡ map stored_range e.stores ++ store_ranges (access Store size l more)
+written_ranges : (size : ℕ) (l : Location) (w : Word) (e : Effect) (more : List Access) → size ≤ 4 → map stored_range (written_to size l w e).stores ++ store_ranges more ≡ map stored_range e.stores ++ store_ranges (access Store size l more)
 written_ranges size (InRegister p i) w e more h = refl
 written_ranges size (InMemory at) w e more h =
     ap (λ (rs : List (ℕ × ℕ)). rs ++ store_ranges more) (map-append stored_range e.stores (record { at = at; bytes = take size (word_list w) } ∷ []))
@@ -82,13 +82,13 @@ written_ranges size (InMemory at) w e more h =
     ∙ ap (λ (n : ℕ). map stored_range e.stores ++ (at, n) ∷ store_ranges more) (stored_size size w h)
 written_ranges size (Constant n) w e more h = refl
 
-written_stores : (os : List Operand) (ws : List Word) (e : Effect) → Fits os ws → map stored_range (all_written os ws e).stores ≡ map stored_range e.stores ++ store_ranges (accesses_of Store os)
+written_stores : (os : List SizedOperand) (ws : List Word) (e : Effect) → Fits os ws → map stored_range (all_written os ws e).stores ≡ map stored_range e.stores ++ store_ranges (accesses_of Store os)
 written_stores [] [] e h = sym (append-nil (map stored_range e.stores))
 written_stores [] (w ∷ ws) e h = absurd h
 written_stores (o ∷ os) [] e h = absurd h
-written_stores (o ∷ os) (w ∷ ws) e h = written_stores os ws (written o.size o.location w e) h.1 ∙ written_ranges o.size o.location w e (accesses_of Store os) h.0
+written_stores (o ∷ os) (w ∷ ws) e h = written_stores os ws (written_to o.size o.location w e) h.1 ∙ written_ranges o.size o.location w e (accesses_of Store os) h.0
 
-outcome_stores : (t : Transfer) (regs : Registers) (r : Outcome) (e : Effect) → OutcomeFits t.writes r → effect_of t.writes regs r ≡ Ok e → map stored_range e.stores ≡ store_ranges (transfer_accesses (Some t))
+outcome_stores : (t : Transfer) (regs : Registers) (r : Computation) (e : Effect) → OutcomeFits t.writes r → effect_of t.writes regs r ≡ Ok e → map stored_range e.stores ≡ store_ranges (transfer_accesses (Some t))
 outcome_stores t regs (Err x) e h k = absurd cc
 outcome_stores t regs (Ok c) e h k =
     let first : Effect = record { cpu = record { regs = regs; flags = c.flags }; stores = []; way = c.way } in

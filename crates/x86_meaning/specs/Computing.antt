@@ -7,10 +7,10 @@ use Rattle.x86_values.specs.Conditions.{condition}
 use Rattle.x86_types.specs.declared.instr.Instr.{Instr}
 use Rattle.x86_types.specs.declared.instr.Instr.TheVariants as instr
 use Rattle.x86_types.specs.Numbers.{size_of}
-use Rattle.x86_meaning.specs.Outcomes.{Calls, Falls, JumpsBy, Outcome, alu_computed, call_computed, call_to_computed, cmov_computed, dec_computed, div_computed, double_shift_computed, exchange_computed, extend_computed, goes, imul_computed, inc_computed, jump_computed, jump_to_computed, move_computed, movs_computed, mul_computed, neg_computed, not_computed, on_one, on_three, on_two, pop_computed, push_computed, ret_computed, scan_computed, set_computed, shift_computed, spread_computed, stos_computed, swap_computed, test_computed}
+use Rattle.x86_meaning.specs.Outcomes.{Calls, Falls, JumpsBy, Computation, alu_computed, call_computed, call_to_computed, cmov_computed, dec_computed, div_computed, double_shift_computed, exchange_computed, extend_computed, goes, imul_computed, inc_computed, jump_computed, jump_to_computed, move_computed, movs_computed, mul_computed, neg_computed, not_computed, on_one, on_three, on_two, pop_computed, push_computed, ret_computed, scan_computed, set_computed, shift_computed, spread_computed, stos_computed, swap_computed, test_computed}
 
 -- ---- each instruction, behind which the next one stands at an address
-unfoldable pub compute : Instr → ℕ → Flags → List Word → Outcome
+unfoldable pub compute : Instr → ℕ → Flags → List Word → Computation
 compute (instr.Alu op w to from) next f xs = on_two (alu_computed op (size_of w) f) xs
 compute (instr.Test w to from) next f xs = on_two (test_computed (size_of w)) xs
 compute (instr.Mov w to from) next f xs = on_one (move_computed f) xs

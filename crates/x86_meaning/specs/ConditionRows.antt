@@ -7,7 +7,7 @@ use Rattle.x86_values.specs.declared.word.Flags.{Flags}
 use Rattle.x86_types.specs.declared.instr.Instr.TheVariants.{Jcc}
 use Rattle.x86_types.specs.declared.operation.Cond.{Cond}
 use Rattle.x86_types.specs.declared.operation.Cond.TheVariants as cc
-use Rattle.x86_meaning.specs.StepRows.{flags, known_flags, all_set, all_cleared, unknown, unknown_below, known_bytes, Shown, Now, Ended, see}
+use Rattle.x86_meaning.specs.StepRows.{five_flags, known_flags, all_set, all_cleared, unknown, unknown_below, bytes_of, Shown, Now, Ended, see}
 use Rattle.x86_meaning.specs.RowParts.{distinct, with_word, with_value, lost}
 
 -- one flag is set, and the others are cleared
@@ -85,23 +85,23 @@ pub record JccTableRows : Type 0 where
 
 -- the same by another distance, and with unspecified flags
 pub record JccRows : Type 0 where
-  pub back : see (Jcc cc.E 0xFFFFFFFE) distinct only_zf 0x8000 2 ≡ Now distinct only_zf 0x3000 (known_bytes (0x50 ∷ 0x51 ∷ []))
+  pub back : see (Jcc cc.E 0xFFFFFFFE) distinct only_zf 0x8000 2 ≡ Now distinct only_zf 0x3000 (bytes_of (0x50 ∷ 0x51 ∷ []))
   -- 0x3002 + 0xFFFFD000; a distance isn't added where the condition doesn't hold
   pub wraps : see (Jcc cc.Ne 0xFFFFD000) distinct all_cleared 0 0 ≡ Now distinct all_cleared 2 []
   pub stays : see (Jcc cc.E 0xFFFFD000) distinct all_cleared 0 0 ≡ Now distinct all_cleared 0x3002 []
   -- registers aren't looked at
-  pub unknown_registers : see (Jcc cc.B 0x20) (with_word 1 unknown distinct) all_set 0x1008 2 ≡ Now (with_word 1 unknown distinct) all_set 0x3022 (lost 1 ++ known_bytes (0xA9 ∷ []))
+  pub unknown_registers : see (Jcc cc.B 0x20) (with_word 1 unknown distinct) all_set 0x1008 2 ≡ Now (with_word 1 unknown distinct) all_set 0x3022 (lost 1 ++ bytes_of (0xA9 ∷ []))
   -- a condition reads the flags that it names, and no other
-  pub others_unknown : see (Jcc cc.E 0x20) distinct (flags None None (Some true) None None) 0 0 ≡ Now distinct (flags None None (Some true) None None) 0x3022 []
-  pub two_known : see (Jcc cc.L 0x20) distinct (flags None None None (Some true) (Some true)) 0 0 ≡ Now distinct (flags None None None (Some true) (Some true)) 0x3002 []
+  pub others_unknown : see (Jcc cc.E 0x20) distinct (five_flags None None (Some true) None None) 0 0 ≡ Now distinct (five_flags None None (Some true) None None) 0x3022 []
+  pub two_known : see (Jcc cc.L 0x20) distinct (five_flags None None None (Some true) (Some true)) 0 0 ≡ Now distinct (five_flags None None None (Some true) (Some true)) 0x3002 []
   -- each of those, whatever the others are
-  pub cf_unknown : jump cc.Ae (flags None (Some true) (Some true) (Some true) (Some true)) ≡ Ended Unspecified
-  pub zf_unknown : jump cc.Ne (flags (Some true) (Some true) None (Some true) (Some true)) ≡ Ended Unspecified
-  pub be_by_cf : jump cc.Be (flags None (Some true) (Some true) (Some true) (Some true)) ≡ Ended Unspecified
-  pub be_by_zf : jump cc.Be (flags (Some true) (Some true) None (Some true) (Some true)) ≡ Ended Unspecified
-  pub le_by_sf : jump cc.Le (flags (Some true) (Some true) (Some true) None (Some true)) ≡ Ended Unspecified
-  pub g_by_zf : jump cc.G (flags (Some true) (Some true) None (Some true) (Some false)) ≡ Ended Unspecified
-  pub ge_by_of : jump cc.Ge (flags (Some true) (Some true) (Some true) (Some true) None) ≡ Ended Unspecified
-  pub pf_unknown : jump cc.Np (flags (Some true) None (Some true) (Some true) (Some true)) ≡ Ended Unspecified
-  pub below_esp : see (Jcc cc.S 0x20) (with_value 4 0x8004 distinct) all_set 0x8003 2 ≡ Now (with_value 4 0x8004 distinct) all_set 0x3022 (lost 1 ++ known_bytes (0x54 ∷ []))
+  pub cf_unknown : jump cc.Ae (five_flags None (Some true) (Some true) (Some true) (Some true)) ≡ Ended Unspecified
+  pub zf_unknown : jump cc.Ne (five_flags (Some true) (Some true) None (Some true) (Some true)) ≡ Ended Unspecified
+  pub be_by_cf : jump cc.Be (five_flags None (Some true) (Some true) (Some true) (Some true)) ≡ Ended Unspecified
+  pub be_by_zf : jump cc.Be (five_flags (Some true) (Some true) None (Some true) (Some true)) ≡ Ended Unspecified
+  pub le_by_sf : jump cc.Le (five_flags (Some true) (Some true) (Some true) None (Some true)) ≡ Ended Unspecified
+  pub g_by_zf : jump cc.G (five_flags (Some true) (Some true) None (Some true) (Some false)) ≡ Ended Unspecified
+  pub ge_by_of : jump cc.Ge (five_flags (Some true) (Some true) (Some true) (Some true) None) ≡ Ended Unspecified
+  pub pf_unknown : jump cc.Np (five_flags (Some true) None (Some true) (Some true) (Some true)) ≡ Ended Unspecified
+  pub below_esp : see (Jcc cc.S 0x20) (with_value 4 0x8004 distinct) all_set 0x8003 2 ≡ Now (with_value 4 0x8004 distinct) all_set 0x3022 (lost 1 ++ bytes_of (0x54 ∷ []))
   pub unknown_esp : see (Jcc cc.E 0x20) (with_word 4 (unknown_below 0x8000) distinct) all_set 0 0 ≡ Ended Unspecified

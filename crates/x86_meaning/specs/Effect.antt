@@ -8,10 +8,10 @@ use Rattle.x86_types.specs.declared.instr.Instr.{Instr}
 use Rattle.x86_meaning.specs.declared.stop.Stop.{Stop}
 use Rattle.x86_meaning.specs.declared.stop.Stop.TheVariants.{Unspecified}
 use Rattle.x86_meaning.specs.Registers.{Registers, Processor, Naming, with_register, with_bytes}
-use Rattle.x86_meaning.specs.Operands.{Location, InRegister, InMemory, Constant, Operand, Access, accesses_of, values_in}
+use Rattle.x86_meaning.specs.Operands.{Location, InRegister, InMemory, Constant, SizedOperand, Access, accesses_of, values_in}
 use Rattle.x86_meaning.specs.TransferShapes.{Transfer}
 use Rattle.x86_meaning.specs.Transfers.{transfer}
-use Rattle.x86_meaning.specs.Outcomes.{Way, Outcome}
+use Rattle.x86_meaning.specs.Outcomes.{Way, Computation}
 use Rattle.x86_meaning.specs.Computing.{compute}
 
 -- what an instruction does: the new registers and flags, the bytes that it stores, in order, and its way
@@ -32,22 +32,22 @@ accesses v i regs = transfer_accesses (transfer v i regs)
 
 -- ---- the effect
 -- the lowest bytes of a word are written to a place of a register
-abbrev pub with_part : ℕ → ℕ → ℕ → Word → Registers → Registers
-with_part size p i w regs = with_register p (with_bytes i (take size (word_list w)) (regs p)) regs
+abbrev pub with_lowest : ℕ → ℕ → ℕ → Word → Registers → Registers
+with_lowest size p i w regs = with_register p (with_bytes i (take size (word_list w)) (regs p)) regs
 
 -- so many bytes of a word are written to a location
-abbrev pub written : ℕ → Location → Word → Effect → Effect
-written size (InRegister p i) w e = record e { cpu = record e.cpu { regs = with_part size p i w e.cpu.regs } }
-written size (InMemory at) w e = record e { stores = e.stores ++ record { at = at; bytes = take size (word_list w) } ∷ [] }
-written size (Constant n) w e = e
+abbrev pub written_to : ℕ → Location → Word → Effect → Effect
+written_to size (InRegister p i) w e = record e { cpu = record e.cpu { regs = with_lowest size p i w e.cpu.regs } }
+written_to size (InMemory at) w e = record e { stores = e.stores ++ record { at = at; bytes = take size (word_list w) } ∷ [] }
+written_to size (Constant n) w e = e
 
 -- a value is written to each operand, in order
-abbrev pub all_written : List Operand → List Word → Effect → Effect
+abbrev pub all_written : List SizedOperand → List Word → Effect → Effect
 all_written [] ws e = e
 all_written (o ∷ os) [] e = e
-all_written (o ∷ os) (w ∷ ws) e = all_written os ws (written o.size o.location w e)
+all_written (o ∷ os) (w ∷ ws) e = all_written os ws (written_to o.size o.location w e)
 
-abbrev pub effect_of : List Operand → Registers → Outcome → Result Effect Stop
+abbrev pub effect_of : List SizedOperand → Registers → Computation → Result Effect Stop
 effect_of writes regs (Err stop) = Err stop
 effect_of writes regs (Ok c) = Ok (all_written writes c.values (record { cpu = record { regs = regs; flags = c.flags }; stores = []; way = c.way }))
 

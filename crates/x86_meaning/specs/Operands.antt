@@ -54,11 +54,11 @@ source_of v regs w (src.Mem a) = option_map InMemory (effective_address v regs a
 source_of v regs w (src.Imm n) = Some (Constant (Some n))
 
 -- an operand of so many bytes
-pub record Operand : Type 0 where
+pub record SizedOperand : Type 0 where
   pub size : ℕ
   pub location : Location
 
-abbrev pub operand : ℕ → Location → Operand
+abbrev pub operand : ℕ → Location → SizedOperand
 operand size l = record { size = size; location = l }
 
 -- an access of memory, of so many bytes from an address on
@@ -74,7 +74,7 @@ access kind size (InMemory at) more = record { kind = kind; at = at; size = size
 access kind size (Constant n) more = more
 
 -- the accesses of operands, in order
-abbrev pub accesses_of : AccessKind → List Operand → List Access
+abbrev pub accesses_of : AccessKind → List SizedOperand → List Access
 accesses_of kind [] = []
 accesses_of kind (o ∷ os) = access kind o.size o.location (accesses_of kind os)
 
@@ -90,10 +90,10 @@ bytes_in size (InMemory at) regs m = bytes_at m at size
 bytes_in size (Constant n) regs m = take size (word_list (word_if n))
 
 -- the value of an operand: its bytes, and zeros above them
-abbrev pub value_in : Operand → Registers → Memory → Word
+abbrev pub value_in : SizedOperand → Registers → Memory → Word
 value_in o regs m = padded (bytes_in o.size o.location regs m)
 
 -- the values of operands, in order
-abbrev pub values_in : List Operand → Registers → Memory → List Word
+abbrev pub values_in : List SizedOperand → Registers → Memory → List Word
 values_in [] regs m = []
 values_in (o ∷ os) regs m = value_in o regs m ∷ values_in os regs m

@@ -9,11 +9,11 @@ use Rattle.x86_types.specs.declared.instr.Instr.TheVariants.{Mul, ImulWide, Imul
 use Rattle.x86_types.specs.declared.operand.Rm.TheVariants as rm
 use Rattle.x86_types.specs.declared.operand.Reg.TheVariants.{Eax, Ecx, Edx, Ebx, Esp, Esi}
 use Rattle.x86_types.specs.declared.width.Width.TheVariants.{One, Two, Four}
-use Rattle.x86_meaning.specs.StepRows.{flags, all_set, all_cleared, unknown, unknown_below, registers, Now, Ended, see}
+use Rattle.x86_meaning.specs.StepRows.{five_flags, all_set, all_cleared, unknown, unknown_below, registers, Now, Ended, see}
 use Rattle.x86_meaning.specs.RowWords.{memory_at, memory_from, memory_by, words, unknown_second, unknown_highest, unknown_half}
 
 abbrev pub exceeds : Bool → Flags
-exceeds b = flags (Some b) None None None (Some b)
+exceeds b = five_flags (Some b) None None None (Some b)
 
 pub record MulRows : Type 0 where
   -- BL: 0x10 * 0x20 is 0x200 in AX; what stands above BL isn't read, and EDX is kept

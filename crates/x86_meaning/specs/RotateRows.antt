@@ -10,7 +10,7 @@ use Rattle.x86_types.specs.declared.operation.Count.TheVariants as count
 use Rattle.x86_types.specs.declared.operand.Rm.TheVariants as rm
 use Rattle.x86_types.specs.declared.operand.Reg.TheVariants.{Eax, Ecx, Ebx, Esp}
 use Rattle.x86_types.specs.declared.width.Width.TheVariants.{One, Two, Four}
-use Rattle.x86_meaning.specs.StepRows.{all_set, all_cleared, known_bytes, unknown, unknown_below, registers, Now, Ended, see}
+use Rattle.x86_meaning.specs.StepRows.{all_set, all_cleared, bytes_of, unknown, unknown_below, registers, Now, Ended, see}
 use Rattle.x86_meaning.specs.RowWords.{memory_at, memory_from, words, unknown_second, unknown_half, unknown_highest}
 
 -- CF and OF, beside flags that were all set, and all cleared
@@ -46,7 +46,7 @@ pub record RolRows : Type 0 where
   pub above_unspecified : see (Shift Rol One (rm.Reg Eax) (count.Imm 1)) (words (unknown_second 0x11220001) (word_of 0) (word_of 0) (word_of 0)) all_cleared 0 0 ≡ Now (words (unknown_second 0x11220002) (word_of 0) (word_of 0) (word_of 0)) (others_cleared (Some false) (Some false)) 0x3002 []
   pub count_unspecified : see (Shift Rol Four (rm.Reg Eax) count.Cl) (words (word_of 5) (unknown_below 4) (word_of 0) (word_of 0)) all_cleared 0 0 ≡ Now (words unknown (unknown_below 4) (word_of 0) (word_of 0)) (others_cleared None None) 0x3002 []
   -- 0xA3A2A1A0 is 0xA2A1A0A3; the byte behind it is kept
-  pub in_memory : see (Shift Rol Four (memory_at 0x1000) (count.Imm 8)) (registers 0 0 0 0 0 0 0) all_set 0x1000 5 ≡ Now (registers 0 0 0 0 0 0 0) (others_set (Some true) None) 0x3002 (known_bytes (0xA3 ∷ 0xA0 ∷ 0xA1 ∷ 0xA2 ∷ 0xA4 ∷ []))
+  pub in_memory : see (Shift Rol Four (memory_at 0x1000) (count.Imm 8)) (registers 0 0 0 0 0 0 0) all_set 0x1000 5 ≡ Now (registers 0 0 0 0 0 0 0) (others_set (Some true) None) 0x3002 (bytes_of (0xA3 ∷ 0xA0 ∷ 0xA1 ∷ 0xA2 ∷ 0xA4 ∷ []))
   pub store_faults : see (Shift Rol One (memory_at 0x2000) (count.Imm 1)) (registers 0 0 0 0 0 0 0) all_set 0 0 ≡ Ended MemoryFault
   pub load_faults : see (Shift Rol One (memory_at 0x5000) (count.Imm 1)) (registers 0 0 0 0 0 0 0) all_set 0 0 ≡ Ended MemoryFault
   pub nowhere : see (Shift Rol One (memory_from Ebx 0) (count.Imm 1)) (words (word_of 0) (word_of 0) (word_of 0) (unknown_below 0x5000)) all_set 0 0 ≡ Ended Unspecified
@@ -74,7 +74,7 @@ pub record RorRows : Type 0 where
   pub above_unspecified : see (Shift Ror Two (rm.Reg Eax) (count.Imm 1)) (words (unknown_highest 0x220002) (word_of 0) (word_of 0) (word_of 0)) all_set 0 0 ≡ Now (words (unknown_highest 0x220001) (word_of 0) (word_of 0) (word_of 0)) (others_set (Some false) (Some false)) 0x3002 []
   pub count_unspecified : see (Shift Ror Two (rm.Reg Eax) count.Cl) (words (word_of 0x11223344) unknown (word_of 0) (word_of 0)) all_set 0 0 ≡ Now (words (unknown_half 0x11223344) unknown (word_of 0) (word_of 0)) (others_set None None) 0x3002 []
   -- 0xA1A0 is 0x0A1A
-  pub in_memory : see (Shift Ror Two (memory_at 0x1000) (count.Imm 4)) (registers 0 0 0 0 0 0 0) all_set 0x1000 3 ≡ Now (registers 0 0 0 0 0 0 0) (others_set (Some false) None) 0x3002 (known_bytes (0x1A ∷ 0x0A ∷ 0xA2 ∷ []))
+  pub in_memory : see (Shift Ror Two (memory_at 0x1000) (count.Imm 4)) (registers 0 0 0 0 0 0 0) all_set 0x1000 3 ≡ Now (registers 0 0 0 0 0 0 0) (others_set (Some false) None) 0x3002 (bytes_of (0x1A ∷ 0x0A ∷ 0xA2 ∷ []))
   pub store_faults : see (Shift Ror Four (memory_at 0x2000) (count.Imm 1)) (registers 0 0 0 0 0 0 0) all_set 0 0 ≡ Ended MemoryFault
   pub load_faults : see (Shift Ror Four (memory_at 0x100D) (count.Imm 1)) (registers 0 0 0 0 0 0 0) all_set 0 0 ≡ Ended MemoryFault
   pub nowhere : see (Shift Ror Four (memory_from Ebx 0) (count.Imm 0)) (words (word_of 0) (word_of 0) (word_of 0) unknown) all_set 0 0 ≡ Ended Unspecified

@@ -8,11 +8,11 @@ use Rattle.x86_types.specs.declared.instr.Instr.TheVariants.{Bsf, Bsr}
 use Rattle.x86_types.specs.declared.operand.Rm.TheVariants as rm
 use Rattle.x86_types.specs.declared.operand.Reg.TheVariants.{Eax, Ecx, Ebx, Esp}
 use Rattle.x86_types.specs.declared.width.Width.TheVariants.{Two, Four}
-use Rattle.x86_meaning.specs.StepRows.{flags, all_set, all_cleared, unknown, unknown_below, registers, Now, Ended, see}
+use Rattle.x86_meaning.specs.StepRows.{five_flags, all_set, all_cleared, unknown, unknown_below, registers, Now, Ended, see}
 use Rattle.x86_meaning.specs.RowWords.{memory_at, memory_from, words, unknown_half, unknown_highest}
 
 abbrev pub zero_flag : Bool → Flags
-zero_flag z = flags None None (Some z) None None
+zero_flag z = five_flags None None (Some z) None None
 
 pub record BsfRows : Type 0 where
   -- EAX, ECX: bit 13 is the lowest; EAX isn't read

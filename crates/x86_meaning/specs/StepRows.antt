@@ -18,14 +18,14 @@ data_place k = Some (record { byte = cond (k == 8) Unspecified (Known (0xA0 + k)
 abbrev pub constant_place : ℕ → Option Place
 constant_place k = Some (record { byte = Known (0xC0 + k); can_write = false; on_stack = false })
 
-abbrev pub stack_place : ℕ → Option Place
-stack_place k = Some (record { byte = cond (ltb k 16) Unspecified (Known (0x40 + k)); can_write = true; on_stack = true })
+abbrev pub row_stack_place : ℕ → Option Place
+row_stack_place k = Some (record { byte = cond (ltb k 16) Unspecified (Known (0x40 + k)); can_write = true; on_stack = true })
 
 abbrev pub row_memory : Memory
 row_memory a =
     cond (leb 0x1000 a && ltb a 0x1010) (data_place (a - 0x1000))
     (cond (leb 0x2000 a && ltb a 0x2010) (constant_place (a - 0x2000))
-    (cond (leb 0x7FF0 a && ltb a 0x8010) (stack_place (a - 0x7FF0)) None))
+    (cond (leb 0x7FF0 a && ltb a 0x8010) (row_stack_place (a - 0x7FF0)) None))
 
 -- a word of which nothing is known, and one of which the lowest byte isn't
 abbrev pub unknown : Word
@@ -35,11 +35,11 @@ abbrev pub unknown_below : ℕ → Word
 unknown_below n = record (word_of n) { b0 = Unspecified }
 
 -- CF, PF, ZF, SF and OF
-abbrev pub flags : Option Bool → Option Bool → Option Bool → Option Bool → Option Bool → Flags
-flags c p z s o = record { cf = c; pf = p; zf = z; sf = s; of = o }
+abbrev pub five_flags : Option Bool → Option Bool → Option Bool → Option Bool → Option Bool → Flags
+five_flags c p z s o = record { cf = c; pf = p; zf = z; sf = s; of = o }
 
 abbrev pub known_flags : Bool → Bool → Bool → Bool → Bool → Flags
-known_flags c p z s o = flags (Some c) (Some p) (Some z) (Some s) (Some o)
+known_flags c p z s o = five_flags (Some c) (Some p) (Some z) (Some s) (Some o)
 
 abbrev pub all_set : Flags
 all_set = known_flags true true true true true
@@ -58,12 +58,12 @@ pub data Shown : Type 0 where
   Now : (regs : List Word) → (flags : Flags) → (eip : ℕ) → (bytes : List Byte) → Shown
   Ended : (end : End) → Shown
 
-abbrev pub eight : (ℕ → Word) → List Word
-eight regs = regs 0 ∷ regs 1 ∷ regs 2 ∷ regs 3 ∷ regs 4 ∷ regs 5 ∷ regs 6 ∷ regs 7 ∷ []
+abbrev pub eight_registers : (ℕ → Word) → List Word
+eight_registers regs = regs 0 ∷ regs 1 ∷ regs 2 ∷ regs 3 ∷ regs 4 ∷ regs 5 ∷ regs 6 ∷ regs 7 ∷ []
 
 abbrev pub shown : ℕ → ℕ → Move State → Shown
 shown at n (Stand ls e) = Ended e
-shown at n (Go ls s) = Now (eight s.cpu.regs) s.cpu.flags s.eip (bytes_at s.memory at n)
+shown at n (Go ls s) = Now (eight_registers s.cpu.regs) s.cpu.flags s.eip (bytes_at s.memory at n)
 shown at n (Halt ls e) = Ended e
 
 -- n bytes from an address on are asked for
@@ -74,5 +74,5 @@ see i regs f at n = shown at n (step i 2 (row_state regs f))
 abbrev pub registers : ℕ → ℕ → ℕ → ℕ → ℕ → ℕ → ℕ → List Word
 registers eax ecx edx ebx ebp esi edi = word_of eax ∷ word_of ecx ∷ word_of edx ∷ word_of ebx ∷ word_of 0x8000 ∷ word_of ebp ∷ word_of esi ∷ word_of edi ∷ []
 
-abbrev pub known_bytes : List ℕ → List Byte
-known_bytes bs = map Known bs
+abbrev pub bytes_of : List ℕ → List Byte
+bytes_of bs = map Known bs

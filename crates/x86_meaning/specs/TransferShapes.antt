@@ -10,13 +10,13 @@ use Rattle.x86_types.specs.declared.width.Width.{Width}
 use Rattle.x86_types.specs.declared.width.Width.TheVariants.{One, Two, Four}
 use Rattle.x86_types.specs.Numbers.{size_of}
 use Rattle.x86_meaning.specs.Registers.{Registers, with_register}
-use Rattle.x86_meaning.specs.Operands.{Location, InRegister, InMemory, Constant, Operand, operand}
+use Rattle.x86_meaning.specs.Operands.{Location, InRegister, InMemory, Constant, SizedOperand, operand}
 
 pub record Transfer : Type 0 where
-  pub reads : List Operand
-  pub writes : List Operand
+  pub reads : List SizedOperand
+  pub writes : List SizedOperand
 
-abbrev pub transfer_of : List Operand → List Operand → Transfer
+abbrev pub transfer_of : List SizedOperand → List SizedOperand → Transfer
 transfer_of reads writes = record { reads = reads; writes = writes }
 
 abbrev pub no_transfer : Option Transfer
@@ -24,30 +24,30 @@ no_transfer = Some (transfer_of [] [])
 
 -- ---- operands without a field
 -- EAX, ECX, EDX, EBX, ESP, EBP, ESI and EDI by number, whole or their lowest bytes
-abbrev pub register : ℕ → ℕ → Operand
+abbrev pub register : ℕ → ℕ → SizedOperand
 register size n = operand size (InRegister n 0)
 
-abbrev pub esp : Operand
+abbrev pub esp : SizedOperand
 esp = register 4 4
 
 -- AL, AX or EAX
-abbrev pub accumulator : Width → Operand
+abbrev pub accumulator : Width → SizedOperand
 accumulator w = register (size_of w) 0
 
 -- what stands above it in a product or a dividend: AH, DX or EDX
-abbrev pub upper_accumulator : Width → Operand
+abbrev pub upper_accumulator : Width → SizedOperand
 upper_accumulator One = operand 1 (InRegister 0 1)
 upper_accumulator Two = register 2 2
 upper_accumulator Four = register 4 2
 
-abbrev pub constant : ℕ → ℕ → Operand
+abbrev pub constant : ℕ → ℕ → SizedOperand
 constant size n = operand size (Constant (Some n))
 
-abbrev pub word_at : ℕ → Operand
-word_at at = operand 4 (InMemory at)
+abbrev pub stack_word : ℕ → SizedOperand
+stack_word at = operand 4 (InMemory at)
 
 -- the count of a shift: a constant or CL
-abbrev pub count_operand : Count → Operand
+abbrev pub count_operand : Count → SizedOperand
 count_operand (count.Imm n) = constant 1 n
 count_operand count.Cl = register 1 1
 
@@ -100,10 +100,10 @@ abbrev pub is_same_register : Location → Location → Bool
 is_same_register (InRegister p i) (InRegister q j) = p == q && i == j
 is_same_register _ _ = false
 
-abbrev pub alu_reads : AluOp → ℕ → Location → Location → List Operand
+abbrev pub alu_reads : AluOp → ℕ → Location → Location → List SizedOperand
 alu_reads op size to from = cond (cancels op && is_same_register to from) (constant size 0 ∷ constant size 0 ∷ []) (operand size to ∷ operand size from ∷ [])
 
-abbrev pub alu_writes : AluOp → ℕ → Location → List Operand
+abbrev pub alu_writes : AluOp → ℕ → Location → List SizedOperand
 alu_writes alu.Cmp size to = []
 alu_writes _ size to = operand size to ∷ []
 
@@ -139,23 +139,23 @@ abbrev pub down : ℕ → ℕ → ℕ
 down n a = (a + (4294967296 - n)) % 4294967296
 
 -- the word below esp is written, with other operands read before
-abbrev pub push_transfer : List Operand → Option ℕ → Option Transfer
+abbrev pub push_transfer : List SizedOperand → Option ℕ → Option Transfer
 push_transfer reads None = None
-push_transfer reads (Some at) = Some (transfer_of (esp ∷ reads) (word_at (down 4 at) ∷ esp ∷ []))
+push_transfer reads (Some at) = Some (transfer_of (esp ∷ reads) (stack_word (down 4 at) ∷ esp ∷ []))
 
 abbrev pub push_of : Option Location → Option ℕ → Option Transfer
 push_of None at = None
 push_of (Some from) at = push_transfer (operand 4 from ∷ []) at
 
 -- the word at esp is read, and other operands are written after esp
-abbrev pub pop_transfer : List Operand → Option ℕ → Option Transfer
+abbrev pub pop_transfer : List SizedOperand → Option ℕ → Option Transfer
 pop_transfer writes None = None
-pop_transfer writes (Some at) = Some (transfer_of (esp ∷ word_at at ∷ []) (esp ∷ writes))
+pop_transfer writes (Some at) = Some (transfer_of (esp ∷ stack_word at ∷ []) (esp ∷ writes))
 
 -- the address of the target of POP uses the raised esp
-abbrev pub raised : Option ℕ → Registers → Registers
-raised None regs = regs
-raised (Some at) regs = with_register 4 (word_of (up 4 at)) regs
+abbrev pub esp_raised : Option ℕ → Registers → Registers
+esp_raised None regs = regs
+esp_raised (Some at) regs = with_register 4 (word_of (up 4 at)) regs
 
 abbrev pub pop_to : Option Location → Option ℕ → Option Transfer
 pop_to None at = None
@@ -164,15 +164,15 @@ pop_to (Some to) at = pop_transfer (operand 4 to ∷ []) at
 -- LEAVE: esp is ebp, and then ebp is pop_transfer
 abbrev pub leave_transfer : Option ℕ → Option Transfer
 leave_transfer None = None
-leave_transfer (Some at) = Some (transfer_of (register 4 5 ∷ word_at at ∷ []) (esp ∷ register 4 5 ∷ []))
+leave_transfer (Some at) = Some (transfer_of (register 4 5 ∷ stack_word at ∷ []) (esp ∷ register 4 5 ∷ []))
 
 -- ---- strings: ESI is 6, EDI is 7, ECX is 1
-abbrev pub movs_transfer : ℕ → Option ℕ → Option ℕ → List Operand → Option Transfer
+abbrev pub movs_transfer : ℕ → Option ℕ → Option ℕ → List SizedOperand → Option Transfer
 movs_transfer size (Some from) (Some to) repeat =
     Some (transfer_of (operand size (InMemory from) ∷ register 4 6 ∷ register 4 7 ∷ repeat) (operand size (InMemory to) ∷ register 4 6 ∷ register 4 7 ∷ repeat))
 movs_transfer size _ _ repeat = None
 
-abbrev pub stos_transfer : Width → Option ℕ → List Operand → Option Transfer
+abbrev pub stos_transfer : Width → Option ℕ → List SizedOperand → Option Transfer
 stos_transfer w None repeat = None
 stos_transfer w (Some to) repeat = Some (transfer_of (accumulator w ∷ register 4 7 ∷ repeat) (operand (size_of w) (InMemory to) ∷ register 4 7 ∷ repeat))
 
@@ -182,6 +182,6 @@ if_counted None t = None
 if_counted (Some zero) t = no_transfer
 if_counted (Some (suc n)) t = t
 
-abbrev pub string_transfer : Bool → Option ℕ → (List Operand → Option Transfer) → Option Transfer
+abbrev pub string_transfer : Bool → Option ℕ → (List SizedOperand → Option Transfer) → Option Transfer
 string_transfer false n f = f []
 string_transfer true n f = if_counted n (f (register 4 1 ∷ []))

@@ -8,7 +8,7 @@ use Rattle.x86_types.specs.declared.width.Width.TheVariants.{One, Four}
 use Rattle.x86_types.specs.Numbers.{size_of}
 use Rattle.x86_meaning.specs.Registers.{Registers, Naming}
 use Rattle.x86_meaning.specs.Operands.{InRegister, Constant, field, effective_address, location_of, source_of}
-use Rattle.x86_meaning.specs.TransferShapes.{Transfer, alu_transfer, by_one, by_two, combine_transfer, compare_transfer, divide_transfer, double_shift_transfer, exchange_transfer, leave_transfer, move_transfer, movs_transfer, multiply_by_transfer, multiply_transfer, no_transfer, pop_to, pop_transfer, push_of, push_transfer, raised, read_transfer, set_transfer, shift_transfer, stos_transfer, string_transfer, update_transfer}
+use Rattle.x86_meaning.specs.TransferShapes.{Transfer, alu_transfer, by_one, by_two, combine_transfer, compare_transfer, divide_transfer, double_shift_transfer, exchange_transfer, leave_transfer, move_transfer, movs_transfer, multiply_by_transfer, multiply_transfer, no_transfer, pop_to, pop_transfer, push_of, push_transfer, esp_raised, read_transfer, set_transfer, shift_transfer, stos_transfer, string_transfer, update_transfer}
 
 -- ---- each instruction
 -- LEA makes no access: where a register of its address has an unspecified byte, its whole result is unspecified, and the run goes on
@@ -32,7 +32,7 @@ transfer v (instr.Shift op w to n) regs = by_one (shift_transfer (size_of w) n) 
 transfer v (instr.Shld to from n) regs = by_two (double_shift_transfer n) (location_of v regs Four to) (Some (field v Four from))
 transfer v (instr.Shrd to from n) regs = by_two (double_shift_transfer n) (location_of v regs Four to) (Some (field v Four from))
 transfer v (instr.Push from) regs = push_of (source_of v regs Four from) (known (regs 4))
-transfer v (instr.Pop to) regs = pop_to (location_of v (raised (known (regs 4)) regs) Four to) (known (regs 4))
+transfer v (instr.Pop to) regs = pop_to (location_of v (esp_raised (known (regs 4)) regs) Four to) (known (regs 4))
 transfer v (instr.Xchg w to from) regs = by_one (exchange_transfer (size_of w) (field v w from)) (location_of v regs w to)
 transfer v (instr.Movzx wide w to from) regs = by_one (move_transfer (size_of wide) (size_of w) (field v wide to)) (location_of v regs w from)
 transfer v (instr.Movsx wide w to from) regs = by_one (move_transfer (size_of wide) (size_of w) (field v wide to)) (location_of v regs w from)

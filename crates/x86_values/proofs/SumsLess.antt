@@ -3,7 +3,7 @@ use Rattle.std.proofs.Common.{◌≡◌, ℕ, ◌+◌, ◌-◌, ◌%◌, ◌<◌
 use Rattle.x86_values.specs.declared.word.Word.{Word}
 use Rattle.x86_values.specs.declared.answered.Answered.{Answered}
 use Rattle.x86_values.specs.Sizes.{IsSize, number, full}
-use Rattle.x86_values.specs.Results.{bit, no_result}
+use Rattle.x86_values.specs.Results.{carry_number, no_result}
 use Rattle.x86_values.specs.Sums.{of_known, sum, difference, sum_overflows, difference_overflows, add, sub}
 use Rattle.x86_values.specs.SumLaws.{SumLaws}
 use Rattle.x86_values.specs.LessSpecified.{WordLessSpecified, FlagLessSpecified, AnsweredLessSpecified}
@@ -37,15 +37,15 @@ rest_less size n s = let b = full_bounds size s in omega arith
 sum_gives : (size : ℕ) → IsSize size → GivesResult size (sum size)
 unfolding sum
 sum_gives size s = record {
-  itself = λ a b c. result_itself size ((a + b + bit c) % full size) (Some (leb (full size) (a + b + bit c))) (Some (sum_overflows size a b c));
-  nothing = λ a b c. no_result_less size ((a + b + bit c) % full size) (Some (leb (full size) (a + b + bit c))) (Some (sum_overflows size a b c)) s (rest_less size (a + b + bit c) s);
+  itself = λ a b c. result_itself size ((a + b + carry_number c) % full size) (Some (leb (full size) (a + b + carry_number c))) (Some (sum_overflows size a b c));
+  nothing = λ a b c. no_result_less size ((a + b + carry_number c) % full size) (Some (leb (full size) (a + b + carry_number c))) (Some (sum_overflows size a b c)) s (rest_less size (a + b + carry_number c) s);
 }
 
 difference_gives : (size : ℕ) → IsSize size → GivesResult size (difference size)
 unfolding difference
 difference_gives size s = record {
-  itself = λ a b c. result_itself size ((full size + a - (b + bit c)) % full size) (Some (ltb a (b + bit c))) (Some (difference_overflows size a b c));
-  nothing = λ a b c. no_result_less size ((full size + a - (b + bit c)) % full size) (Some (ltb a (b + bit c))) (Some (difference_overflows size a b c)) s (rest_less size (full size + a - (b + bit c)) s);
+  itself = λ a b c. result_itself size ((full size + a - (b + carry_number c)) % full size) (Some (ltb a (b + carry_number c))) (Some (difference_overflows size a b c));
+  nothing = λ a b c. no_result_less size ((full size + a - (b + carry_number c)) % full size) (Some (ltb a (b + carry_number c))) (Some (difference_overflows size a b c)) s (rest_less size (full size + a - (b + carry_number c)) s);
 }
 
 add_less : (size : ℕ) (x y u v : Word) (c d : Option Bool) → IsSize size → WordLessSpecified x u → WordLessSpecified y v → FlagLessSpecified c d → AnsweredLessSpecified (add size x y c) (add size u v d)

@@ -6,9 +6,9 @@ use Rattle.x86_values.specs.Words.{word_of}
 use Rattle.x86_values.specs.Sizes.{cut, no_word, is_negative}
 
 -- a carry as a number
-abbrev pub bit : Bool → ℕ
-bit true = 1
-bit false = 0
+abbrev pub carry_number : Bool → ℕ
+carry_number true = 1
+carry_number false = 0
 
 -- PF: the lowest byte has an even number of ones
 unfoldable pub has_even_parity : ℕ → Bool

@@ -8,7 +8,7 @@ use Rattle.x86_values.specs.declared.word.Flags.{Flags}
 use Rattle.x86_values.specs.declared.answered.Answered.{Answered}
 use Rattle.x86_values.specs.Words.{word_of}
 use Rattle.x86_values.specs.Shifts.{shift}
-use Rattle.x86_values.specs.WrittenOut.{answered}
+use Rattle.x86_values.specs.WrittenOut.{answer_with}
 
 abbrev pub on : Option Bool
 on = Some true
@@ -22,18 +22,18 @@ none = None
 
 -- a result with CF, PF, ZF, SF and OF
 abbrev pub gives : ℕ → Option Bool → Option Bool → Option Bool → Option Bool → Option Bool → Answered
-gives n cf pf zf sf of = answered n (record { cf = cf; pf = pf; zf = zf; sf = sf; of = of })
+gives n cf pf zf sf of = answer_with n (record { cf = cf; pf = pf; zf = zf; sf = sf; of = of })
 
 -- the flags before each row
 abbrev pub old : Flags
 old = record { cf = Some true; pf = Some false; zf = Some true; sf = None; of = Some true }
 
 abbrev pub stays : ℕ → Answered
-stays n = answered n old
+stays n = answer_with n old
 
 -- what a rotate gives, with CF and OF
-abbrev pub turns : ℕ → Option Bool → Option Bool → Answered
-turns n cf of = gives n cf (Some false) (Some true) None of
+abbrev pub rotates : ℕ → Option Bool → Option Bool → Answered
+rotates n cf of = gives n cf (Some false) (Some true) None of
 
 abbrev pub row : ShiftOp → ℕ → ℕ → ℕ → Answered → Answered × Answered
 row kind size operand count answer = (shift kind size (word_of operand) (Known count) old, answer)
@@ -127,55 +127,55 @@ sar_rows =
 -- a rotate keeps PF, ZF and SF, and CF is the bit that entered
 abbrev pub rol_rows : List (Answered × Answered)
 rol_rows =
-    row Rol 1 0x81 1 (turns 0x03 on on)
-    ∷ row Rol 1 0x40 1 (turns 0x80 off on)
-    ∷ row Rol 1 0xC0 1 (turns 0x81 on off)
-    ∷ row Rol 1 0x00 1 (turns 0x00 off off)
-    ∷ row Rol 1 0x12 4 (turns 0x21 on none)
-    ∷ row Rol 1 0x81 7 (turns 0xC0 off none)
-    ∷ row Rol 1 0x02 7 (turns 0x01 on none)
-    ∷ row Rol 1 0x13 8 (turns 0x13 none none)
-    ∷ row Rol 1 0x81 9 (turns 0x03 none none)
-    ∷ row Rol 1 0x81 31 (turns 0xC0 none none)
+    row Rol 1 0x81 1 (rotates 0x03 on on)
+    ∷ row Rol 1 0x40 1 (rotates 0x80 off on)
+    ∷ row Rol 1 0xC0 1 (rotates 0x81 on off)
+    ∷ row Rol 1 0x00 1 (rotates 0x00 off off)
+    ∷ row Rol 1 0x12 4 (rotates 0x21 on none)
+    ∷ row Rol 1 0x81 7 (rotates 0xC0 off none)
+    ∷ row Rol 1 0x02 7 (rotates 0x01 on none)
+    ∷ row Rol 1 0x13 8 (rotates 0x13 none none)
+    ∷ row Rol 1 0x81 9 (rotates 0x03 none none)
+    ∷ row Rol 1 0x81 31 (rotates 0xC0 none none)
     ∷ row Rol 1 0x81 32 (stays 0x81)
-    ∷ row Rol 1 0x81 33 (turns 0x03 on on)
-    ∷ row Rol 2 0x8001 1 (turns 0x0003 on on)
-    ∷ row Rol 2 0x1234 4 (turns 0x2341 on none)
-    ∷ row Rol 2 0x0001 15 (turns 0x8000 off none)
-    ∷ row Rol 2 0x1235 16 (turns 0x1235 none none)
-    ∷ row Rol 2 0x8001 17 (turns 0x0003 none none)
-    ∷ row Rol 2 0x0002 31 (turns 0x0001 none none)
-    ∷ row Rol 4 0x80000001 1 (turns 0x00000003 on on)
-    ∷ row Rol 4 0x12345678 8 (turns 0x34567812 off none)
-    ∷ row Rol 4 0x00000002 31 (turns 0x00000001 on none)
+    ∷ row Rol 1 0x81 33 (rotates 0x03 on on)
+    ∷ row Rol 2 0x8001 1 (rotates 0x0003 on on)
+    ∷ row Rol 2 0x1234 4 (rotates 0x2341 on none)
+    ∷ row Rol 2 0x0001 15 (rotates 0x8000 off none)
+    ∷ row Rol 2 0x1235 16 (rotates 0x1235 none none)
+    ∷ row Rol 2 0x8001 17 (rotates 0x0003 none none)
+    ∷ row Rol 2 0x0002 31 (rotates 0x0001 none none)
+    ∷ row Rol 4 0x80000001 1 (rotates 0x00000003 on on)
+    ∷ row Rol 4 0x12345678 8 (rotates 0x34567812 off none)
+    ∷ row Rol 4 0x00000002 31 (rotates 0x00000001 on none)
     ∷ row Rol 4 0x80000001 32 (stays 0x80000001)
-    ∷ row Rol 4 0x80000001 33 (turns 0x00000003 on on)
+    ∷ row Rol 4 0x80000001 33 (rotates 0x00000003 on on)
     ∷ []
 
 abbrev pub ror_rows : List (Answered × Answered)
 ror_rows =
-    row Ror 1 0x81 1 (turns 0xC0 on off)
-    ∷ row Ror 1 0x01 1 (turns 0x80 on on)
-    ∷ row Ror 1 0x80 1 (turns 0x40 off on)
-    ∷ row Ror 1 0x02 1 (turns 0x01 off off)
-    ∷ row Ror 1 0x12 4 (turns 0x21 off none)
-    ∷ row Ror 1 0x40 7 (turns 0x80 on none)
-    ∷ row Ror 1 0x93 8 (turns 0x93 none none)
-    ∷ row Ror 1 0x81 9 (turns 0xC0 none none)
-    ∷ row Ror 1 0x81 31 (turns 0x03 none none)
+    row Ror 1 0x81 1 (rotates 0xC0 on off)
+    ∷ row Ror 1 0x01 1 (rotates 0x80 on on)
+    ∷ row Ror 1 0x80 1 (rotates 0x40 off on)
+    ∷ row Ror 1 0x02 1 (rotates 0x01 off off)
+    ∷ row Ror 1 0x12 4 (rotates 0x21 off none)
+    ∷ row Ror 1 0x40 7 (rotates 0x80 on none)
+    ∷ row Ror 1 0x93 8 (rotates 0x93 none none)
+    ∷ row Ror 1 0x81 9 (rotates 0xC0 none none)
+    ∷ row Ror 1 0x81 31 (rotates 0x03 none none)
     ∷ row Ror 1 0x81 32 (stays 0x81)
-    ∷ row Ror 1 0x81 33 (turns 0xC0 on off)
-    ∷ row Ror 2 0x8001 1 (turns 0xC000 on off)
-    ∷ row Ror 2 0x1234 4 (turns 0x4123 off none)
-    ∷ row Ror 2 0x4000 15 (turns 0x8000 on none)
-    ∷ row Ror 2 0x9234 16 (turns 0x9234 none none)
-    ∷ row Ror 2 0x8001 17 (turns 0xC000 none none)
-    ∷ row Ror 4 0x00000001 1 (turns 0x80000000 on on)
-    ∷ row Ror 4 0x80000000 1 (turns 0x40000000 off on)
-    ∷ row Ror 4 0x12345678 8 (turns 0x78123456 off none)
-    ∷ row Ror 4 0x40000000 31 (turns 0x80000000 on none)
+    ∷ row Ror 1 0x81 33 (rotates 0xC0 on off)
+    ∷ row Ror 2 0x8001 1 (rotates 0xC000 on off)
+    ∷ row Ror 2 0x1234 4 (rotates 0x4123 off none)
+    ∷ row Ror 2 0x4000 15 (rotates 0x8000 on none)
+    ∷ row Ror 2 0x9234 16 (rotates 0x9234 none none)
+    ∷ row Ror 2 0x8001 17 (rotates 0xC000 none none)
+    ∷ row Ror 4 0x00000001 1 (rotates 0x80000000 on on)
+    ∷ row Ror 4 0x80000000 1 (rotates 0x40000000 off on)
+    ∷ row Ror 4 0x12345678 8 (rotates 0x78123456 off none)
+    ∷ row Ror 4 0x40000000 31 (rotates 0x80000000 on none)
     ∷ row Ror 4 0x80000001 32 (stays 0x80000001)
-    ∷ row Ror 4 0x00000001 33 (turns 0x80000000 on on)
+    ∷ row Ror 4 0x00000001 33 (rotates 0x80000000 on on)
     ∷ []
 
 pub record WorkedShifts : Type 0 where

@@ -9,7 +9,7 @@ use Rattle.x86_values.specs.declared.answered.Answered.{Answered}
 use Rattle.x86_values.specs.Words.{word_of}
 use Rattle.x86_values.specs.Shifts.{shift}
 use Rattle.x86_values.specs.WrittenOut.{bytes, unflagged}
-use Rattle.x86_values.specs.ShiftRows.{on, off, old, gives, turns}
+use Rattle.x86_values.specs.ShiftRows.{on, off, old, gives, rotates}
 
 abbrev pub each_kind : List ShiftOp
 each_kind = Rol ∷ Ror ∷ Shl ∷ Shr ∷ Sar ∷ []
@@ -47,7 +47,7 @@ pub record WorkedUnspecifiedShifts : Type 0 where
   pub byte_of_four : each 4 (bytes (Known 0x81) (Known 1) (Known 2) Unspecified) (Known 31) ≡ each_forgets nothing_of_four
   pub by_width : each 1 (bytes Unspecified (Known 1) (Known 2) (Known 3)) (Known 8) ≡ each_forgets nothing_of_one
   -- a byte above the operand isn't read
-  pub byte_above : each 1 (bytes (Known 0x81) Unspecified Unspecified Unspecified) (Known 1) ≡ turns 0x03 on on ∷ turns 0xC0 on off ∷ gives 0x02 on off off off on ∷ gives 0x40 on off off off on ∷ gives 0xC0 on on off on off ∷ []
+  pub byte_above : each 1 (bytes (Known 0x81) Unspecified Unspecified Unspecified) (Known 1) ≡ rotates 0x03 on on ∷ rotates 0xC0 on off ∷ gives 0x02 on off off off on ∷ gives 0x40 on off off off on ∷ gives 0xC0 on on off on off ∷ []
   -- of a byte that is none, above 255, the result is of the size too
   pub beyond_a_byte : map (λ answer. answer.value) (each 1 (bytes (Known 1023) (Known 0) (Known 0) (Known 0)) (Known 1)) ≡ map word_of (5 ∷ 127 ∷ 254 ∷ 255 ∷ 127 ∷ [])
   -- by 0, modulo 32, an unspecified byte stays beside the known ones, and so do the flags

@@ -22,8 +22,8 @@ abbrev pub unknown_flags : Flags
 unknown_flags = record { cf = None; pf = None; zf = None; sf = None; of = None }
 
 -- a number and five flags
-abbrev pub answered : ℕ → Flags → Answered
-answered n f = record { value = word_of n; flags = f }
+abbrev pub answer_with : ℕ → Flags → Answered
+answer_with n f = record { value = word_of n; flags = f }
 
 -- a word, of whose flags nothing is known
 abbrev pub unflagged : Word → Answered

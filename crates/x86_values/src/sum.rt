@@ -12,7 +12,7 @@ use crate::{Answered, Word, number};
 
 // A carry as a number.
 fn bit(carry: bool) -> u64
-    ensures exact { result ≡ results.bit carry }
+    ensures exact { result ≡ results.carry_number carry }
 {
     if carry { 1 } else { 0 }
 }
