@@ -1,10 +1,10 @@
 #!/usr/bin/env python3
 """Times rewriting on pages of code, beside a call that only reads its words, in one run.
 
-Prints for each file the best time of a call, and that time less the call that only reads its words. A page of twice the
-instructions may cost at most four times as much, so that cost doesn't grow with the square of the work, and each call
-at most a second. The status is 0 where that is so, 1 where it isn't, and 3 where nothing was measured, since the program isn't
-there.
+Prints for each file the best time of a call that stores to devices, that time less the call that only reads its words, and the
+best time of a call that stores to files, most of which the two syncs take. A page of twice the instructions may cost at most four
+times as much, so that cost doesn't grow with the square of the work, and each call at most a second. The status is 0 where
+that is so, 1 where it isn't, and 3 where nothing was measured, since the program isn't there.
 """
 
 import importlib.util
@@ -47,11 +47,13 @@ def main():
                 path = os.path.join(folder, "in")
                 with open(path, "wb") as file:
                     file.write(maker.executable(make(count)))
+                whole = best_time([program, "rewrite", path, "/dev/null", "/dev/stdout"], CALLS)
                 out, map_ = os.path.join(folder, "out"), os.path.join(folder, "map")
-                whole = best_time([program, "rewrite", path, out, map_], CALLS)
+                stored = best_time([program, "rewrite", path, out, map_], CALLS)
             costs.append(max(whole - alone, 0.0))
-            print(f"{count:5} {name:18} {1000 * whole:8.2f} ms, {1000 * costs[-1]:8.2f} ms more than words alone")
-            failed = failed or whole > 1
+            more = f"{1000 * costs[-1]:8.2f} ms more than words alone"
+            print(f"{count:5} {name:18} {1000 * whole:8.2f} ms, {more}; to files {1000 * stored:8.2f} ms")
+            failed = failed or stored > 1
         # below a millisecond the clock says nothing
         failed = failed or (costs[1] > 0.001 and costs[1] > 4 * max(costs[0], 0.00025))
     print("too slow" if failed else "ok")

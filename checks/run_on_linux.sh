@@ -72,6 +72,38 @@ ends() {
     [ "$status" -eq "$2" ] && cmp -s "$1.out" wanted.out
 }
 
+# limited BLOCKS WORDS..: with files limited to so many KiB ./sw ends with 121 and its line.
+limited() {
+    local blocks=$1 said
+    shift
+    said=$(
+        { ulimit -f "$blocks" && "$sw" "$@"; } 2>&1
+        echo $?
+    )
+    [ "$said" = "sw: host fault
+121" ]
+}
+
+# unsynced ERROR STATUS LINE WORDS..: as calls, where each sync of a file fails with that error.
+unsynced() {
+    local LD_PRELOAD=$folder/unsynced.so ERROR=$1
+    export LD_PRELOAD ERROR
+    shift
+    calls "$@"
+}
+
+# holds FILE TEXT: the file is that line.
+holds() {
+    echo "$2" | cmp -s - "$1"
+}
+
+# is_cut FILE WHOLE: the file is a front of the whole one.
+is_cut() {
+    local size
+    size=$(wc -c <"$1")
+    [ "$size" -lt "$(wc -c <"$2")" ] && head -c "$size" "$2" | cmp -s - "$1"
+}
+
 faults() {
     run "$1"
     [ "$status" -ne 0 ] && [ ! -s "$1.out" ]
@@ -84,7 +116,7 @@ if "$sw" 2>said.err; [ $? -ne 125 ]; then
     exit 1
 fi
 
-for name in exit7 hello jumps other_call; do
+for name in echo_byte exit7 hello jumps other_call; do
     cp "$top/examples/$name" "$name"
     chmod +x "$name"
     check "$name is rewritten" writes "$name"
@@ -94,7 +126,9 @@ check "jumps: the new code" code_is jumps.new "E9 00 00 00 00 BB 05 00 00 00 E9 
 
 run exit7
 if [ "$status" -eq 7 ]; then
-    chmod +x exit7.new hello.new jumps.new other_call.new
+    chmod +x echo_byte.new exit7.new hello.new jumps.new other_call.new
+    check "echo_byte: the old file echoes a byte and ends with 0" ends echo_byte 0 K <<<K
+    check "echo_byte: the new file echoes a byte and ends with 0" ends echo_byte.new 0 K <<<K
     check "exit7: the old file ends with 7" ends exit7 7 ""
     check "exit7: the new file ends with 7" ends exit7.new 7 ""
     check "hello: the old file writes hi and ends with 0" ends hello 0 "hi\n"
@@ -144,6 +178,54 @@ for name in none/map /dev/full .; do
     check "MAP as $name: 121" calls 121 "sw: host fault" rewrite exit7 out "$name"
     check "MAP as $name: the new file stands whole" cmp -s out exit7.new
 done
+rm -f out map
+check "OUT past a limit on files: 121" limited 4 rewrite exit7 out map
+check "OUT past a limit on files: no map stored" [ ! -e map ]
+echo "an old OUT" >out
+check "OUT past a limit on files, where an older file is: 121" limited 4 rewrite exit7 out map
+check "OUT past a limit on files: the older file is lost" is_cut out exit7.new
+mkfifo piped
+cat piped >received &
+check "MAP past a limit on files: 121" limited 0 rewrite exit7 piped map
+wait
+check "MAP past a limit on files: the new file came through whole" cmp -s received exit7.new
+
+cat >unsynced.c <<'C'
+#include <errno.h>
+#include <stdlib.h>
+int fsync(int file) { (void)file; errno = atoi(getenv("ERROR")); return -1; }
+int fdatasync(int file) { return fsync(file); }
+C
+if cc -shared -fPIC -o unsynced.so unsynced.c 2>/dev/null; then
+    # EIO, ENOSPC, EDQUOT; and EINVAL, EROFS, EOPNOTSUPP
+    for error in 5 28 122; do
+        rm -f out map
+        check "OUT can't be synced, error $error: 121" unsynced "$error" 121 "sw: host fault" rewrite exit7 out map
+        check "OUT can't be synced, error $error: no map stored" [ ! -e map ]
+    done
+    for error in 22 30 95; do
+        rm -f out map
+        check "there is nothing to sync, error $error: 0" unsynced "$error" 0 "" rewrite exit7 out map
+        check "there is nothing to sync, error $error: both are stored" cmp -s out exit7.new
+    done
+else
+    echo "skipped  syncs that fail: there is no C compiler"
+fi
+
+# Words name files, and two words may name one.
+cp exit7 same
+check "MAP as IN: 0" calls 0 "" rewrite same out same
+check "MAP as IN: the new file stands whole" cmp -s out exit7.new
+check "MAP as IN: the map in place of the old file" holds same "secondwrite-map 1"
+cp exit7 same
+check "OUT as IN: 0" calls 0 "" rewrite same same map
+check "OUT as IN: the new file in place of the old one" cmp -s same exit7.new
+rm -f out
+check "OUT and MAP as two words for one file: 0" calls 0 "" rewrite exit7 ./out out
+check "OUT and MAP as two words for one file: it is the map, which is stored last" holds out "secondwrite-map 1"
+ln -s out link
+check "MAP as a link to OUT: 0" calls 0 "" rewrite exit7 out link
+check "MAP as a link to OUT: the file is the map" holds out "secondwrite-map 1"
 
 if [ "$(id -u)" -eq 0 ]; then
     echo "skipped  files without permission: root may open them"

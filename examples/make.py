@@ -9,7 +9,7 @@ import struct
 import sys
 
 HERE = os.path.dirname(os.path.abspath(__file__))
-NAMES = ("exit7", "hello", "jumps", "other_call")
+NAMES = ("echo_byte", "exit7", "hello", "jumps", "other_call")
 PAGE = 4096
 TEXT_ADDRESS = 0x08049000
 ROOM_ADDRESS = 0x0804A000

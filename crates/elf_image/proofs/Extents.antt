@@ -4,7 +4,7 @@ use Rattle.std.proofs.lemmas.List.{at_drop_more, at_drop_all}
 use Rattle.std.proofs.lemmas.List.Sums.{sum_by_more, sum-map}
 use Rattle.elf_image.specs.declared.header.ProgramHeader.{ProgramHeader}
 use Rattle.elf_image.specs.Pages.{first_page, end_page}
-use Rattle.elf_image.specs.Refusals.{greatest, least}
+use Rattle.image.specs.Rooms.{greatest, least}
 
 pub greatest_more : (hs : List ProgramHeader) (i : ℕ) (h : ProgramHeader) → i < length hs → h ≡ get_or hs i h
     → greatest (map end_page (drop i hs)) ≡ max (end_page h) (greatest (map end_page (drop (i + 1) hs)))

@@ -1,6 +1,8 @@
 pub mod Extents
 pub mod HeaderRows
 pub mod Headers
+pub mod ImagesFit
+pub mod Passed
 pub mod Permissions
 pub mod PlainForm
 pub mod Reading
@@ -9,4 +11,5 @@ pub mod Rooms
 pub mod Rows
 pub mod SegmentRows
 pub mod SharedPages
+pub mod SoundHeaders
 pub mod Windows

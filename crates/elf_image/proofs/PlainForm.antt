@@ -1,5 +1,5 @@
 -- A plain file passes every test, and its image is the plain one.
-use Rattle.std.proofs.Common.{◌≡◌, ℕ, ◌+◌, ◌-◌, ◌*◌, ◌%◌, ◌≤◌, ◌==◌, ap, Bool, true, false, not, ltb, List, [], ◌∷◌, length, take, drop, replicate, map, filter, Option, Some, None, Ok, refl, arith, get_or}
+use Rattle.std.proofs.Common.{◌≡◌, ℕ, ◌+◌, ◌-◌, ◌*◌, ◌%◌, ◌≤◌, ◌==◌, ap, Bool, true, false, not, ltb, List, [], ◌∷◌, length, take, drop, replicate, map, filter, None, Ok, refl, arith, get_or}
 use Rattle.std.proofs.lemmas.Bool.{and_parts, eqb-true, leb-true, le-ltb, ne_eqb, not-false}
 use Rattle.std.specs.List.{list_any}
 use Rattle.std.proofs.lemmas.List.{take-append-le, length-drop}
@@ -7,15 +7,17 @@ use Rattle.elf_image.specs.declared.header.ProgramHeader.{ProgramHeader}
 use Rattle.image.specs.declared.image.Segment.{Segment}
 use Rattle.image.specs.declared.image.Image.{Image}
 use Rattle.image.specs.declared.perm.Perm.{Perm}
-use Rattle.elf_image.specs.declared.refusal.Room.{Room}
-use Rattle.elf_image.specs.declared.refusal.Room.TheVariants.{Source, Any}
+use Rattle.image.specs.declared.room.Room.{Room}
+use Rattle.image.specs.declared.room.Room.TheVariants.{Source, Any}
 use Rattle.elf_image.specs.declared.refusal.Refusal.{Refusal}
 use Rattle.elf_image.specs.declared.refusal.Refusal.TheVariants.{Short, Magic, Class, Order, Version, Kind, Machine, HeaderSize, HeaderTable, Dynamic, SegmentFile, SegmentSize, SegmentAlign, Permission, Range, SharedPage, Entry, CodeSpan, ImageSize}
 use Rattle.elf_image.specs.Fields.{has_magic, e_type, e_machine, e_entry, e_phoff, e_phentsize, e_phnum, header_at, headers_from, headers_of}
 use Rattle.elf_image.specs.Pages.{window, first_page, page_bytes, end_page, file_end_page, is_segment}
-use Rattle.elf_image.specs.Refusals.{first, tests, segment_tests, segments_of, refusal_of, room_end, room_span, room_size, past_file, is_dynamic, is_too_small, is_out_of_room, any_shares_page, has_address, has_code, code_span, pages_size}
-use Rattle.elf_image.specs.Image.{image_of, image_if, segment_of}
+use Rattle.elf_image.specs.Refusals.{first, tests, segment_tests, segments_of, refusal_of, past_file, is_dynamic, is_too_small, is_out_of_room, any_shares_page, has_address, has_code, code_span, pages_size}
+use Rattle.image.specs.Rooms.{room_end, room_span, room_size}
+use Rattle.elf_image.specs.Image.{image_of, segment_of}
 use Rattle.elf_image.specs.Plain.{is_plain, is_plain_text, is_plain_room, has_plain_header, text_segment, room_segment, PlainIsAccepted, PlainIsRead}
+use Rattle.elf_image.proofs.Passed.{not_refused}
 
 abbrev pub program_header : ℕ → ℕ → ℕ → ℕ → ℕ → ℕ → ProgramHeader
 program_header k o a f m g = record { p_type = k; p_offset = o; p_vaddr = a; p_filesz = f; p_memsz = m; p_flags = g }
@@ -221,10 +223,6 @@ plain_is_accepted file room magic e =
     let p = plain_is file e in
     rw (plain_passes file room magic p) (ap Ok (same_image (segments_are file p) p.header.entry))
 
-accepted_passes : (file : List ℕ) (o : Option Refusal) (i : Image) → image_if file o ≡ Ok i → o ≡ None
-accepted_passes file None i e = refl
-accepted_passes file (Some r) i e = cc
-
 -- the second test of a list in which none holds
 second : (a b : Bool) (q r : Refusal) (ts : List (Bool × Refusal)) → first ((a, q) ∷ (b, r) ∷ ts) ≡ None → b ≡ false
 second true b q r ts none = cc
@@ -234,7 +232,7 @@ second false false q r ts none = refl
 accepted_has_magic : (file : List ℕ) (room : Room) (i : Image) → image_of file room ≡ Ok i → has_magic file ≡ true
 unfolding image_of refusal_of
 accepted_has_magic file room i e =
-    not-false (has_magic file) (second (ltb (length file) 52) (not (has_magic file)) Short Magic (drop 2 (tests file room)) (accepted_passes file (first (tests file room)) i e))
+    not-false (has_magic file) (second (ltb (length file) 52) (not (has_magic file)) Short Magic (drop 2 (tests file room)) (not_refused file (first (tests file room)) i e))
 
 pub plain_is_read : PlainIsRead
 plain_is_read file room i e plain =

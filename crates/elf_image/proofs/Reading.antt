@@ -1,16 +1,15 @@
 -- The tests of a file in three steps: its header, its table, its segments.
-use Rattle.std.proofs.Common.{◌≡◌, ℕ, ◌∙◌, Bool, true, false, cond, not, ltb, List, [], ◌∷◌, ◌++◌, length, map, filter, Some, None, Ok, Err, refl, ap, sym}
+use Rattle.std.proofs.Common.{◌≡◌, ℕ, ◌∙◌, Bool, true, false, cond, List, [], ◌∷◌, ◌++◌, length, map, Some, None, Ok, Err, refl, ap, sym}
 use Rattle.std.specs.List.{list_any}
 use Rattle.image.specs.declared.image.Image.{Image}
 use Rattle.image.specs.declared.image.Segment.{Segment}
 use Rattle.elf_image.specs.declared.header.ProgramHeader.{ProgramHeader}
-use Rattle.elf_image.specs.declared.refusal.Room.{Room}
+use Rattle.image.specs.declared.room.Room.{Room}
 use Rattle.elf_image.specs.declared.refusal.Refusal.{Refusal}
-use Rattle.elf_image.specs.declared.refusal.Refusal.TheVariants.{Dynamic, SegmentFile, SegmentSize, SegmentAlign, Permission, Range, SharedPage, Entry, CodeSpan, ImageSize}
+use Rattle.elf_image.specs.declared.refusal.Refusal.TheVariants.{Dynamic}
 use Rattle.elf_image.specs.Fields.{e_entry, headers_of}
-use Rattle.elf_image.specs.Refusals.{first, header_tests, segment_tests, segments_of, refusal_of, is_dynamic, is_out_of_room, room_end, room_span, room_size, any_shares_page, has_address, has_code, code_span, pages_size}
+use Rattle.elf_image.specs.Refusals.{first, header_tests, segment_tests, segments_of, refusal_of, is_dynamic}
 use Rattle.elf_image.specs.Image.{image_of, image_if, segment_of}
-use Rattle.elf_image.proofs.Rooms.{within_any}
 
 abbrev image : List Segment → ℕ → Image
 image ss e = record { segments = ss; entry = e }
@@ -64,26 +63,14 @@ pub accepted : (file : List ℕ) (room : Room) → first (header_tests file) ≡
 unfolding image_of
 accepted file room e d s = ap (image_if file) (past_table file room e d ∙ s)
 
--- the fifth test of a list in which none holds
-fifth : (a b c d e : Bool) (q r s t u : Refusal) (ts : List (Bool × Refusal)) → first ((a, q) ∷ (b, r) ∷ (c, s) ∷ (d, t) ∷ (e, u) ∷ ts) ≡ None → e ≡ false
-fifth true b c d e q r s t u ts none = cc
-fifth false true c d e q r s t u ts none = cc
-fifth false false true d e q r s t u ts none = cc
-fifth false false false true e q r s t u ts none = cc
-fifth false false false false true q r s t u ts none = cc
-fifth false false false false false q r s t u ts none = refl
-
-abbrev later_tests : ℕ → Room → List ProgramHeader → List (Bool × Refusal)
-later_tests at room hs =
-    (any_shares_page hs, SharedPage) ∷ (not (list_any (has_address at) (filter has_code hs)), Entry) ∷ (ltb (room_span room) (code_span hs), CodeSpan)
-    ∷ (ltb (room_size room) (pages_size hs), ImageSize) ∷ []
-
-pub all_in_room : (n at : ℕ) (room : Room) (hs : List ProgramHeader) → first (segment_tests n at room hs) ≡ None → list_any (is_out_of_room 0x7C000000) hs ≡ false
-all_in_room n at room hs none = within_any room hs (fifth _ _ _ _ (list_any (is_out_of_room (room_end room)) hs) SegmentFile SegmentSize SegmentAlign Permission Range (later_tests at room hs) none)
-
 same_image : {ss ts : List Segment} {e f : ℕ} → ss ≡ ts → e ≡ f → image ss e ≡ image ts f
 same_image p q = cc
 
-pub image_is : (file : List ℕ) (room : Room) (hs : List ProgramHeader) (ss : List Segment) (at : ℕ) → image_of file room ≡ image_if file None → hs ≡ segments_of file
-    → ss ≡ map (segment_of file) hs → at ≡ e_entry file → image_of file room ≡ Ok (image ss at)
-image_is file room hs ss at e h s a = e ∙ ap Ok (same_image (sym (s ∙ ap (map (segment_of file)) h)) (sym a))
+-- the image of a file whose headers `hs` and segments `ls` passed their tests
+pub read_is : (file : List ℕ) (room : Room) (hs ls us : List ProgramHeader) (ss : List Segment) (at : ℕ) → first (header_tests file) ≡ None → hs ≡ headers_of file → list_any is_dynamic hs ≡ false
+    → ls ≡ segments_of file → first (segment_tests (length file) at room ls) ≡ None → us ≡ ls → ss ≡ map (segment_of file) us → at ≡ e_entry file → image_of file room ≡ Ok (image ss at)
+read_is file room hs ls us ss at e table d loaded passed used s a =
+    let none : list_any is_dynamic (headers_of file) ≡ false = ap (list_any is_dynamic) (sym table) ∙ d in
+    let same = ap (λ ks. first (segment_tests (length file) at room ks)) loaded in
+    let there = ap (λ x. first (segment_tests (length file) x room (segments_of file))) a in
+    accepted file room e none (sym there ∙ sym same ∙ passed) ∙ ap Ok (same_image (sym (s ∙ ap (map (segment_of file)) (used ∙ loaded))) (sym a))

@@ -1,22 +1,12 @@
--- The end of a room, and what lies before it.
-use Rattle.std.proofs.Common.{◌≡◌, ℕ, suc, zero, ◌+◌, ◌<◌, ◌≤◌, false, ltb, List, [], ◌∷◌, length, get_or, refl, arith}
+-- What lies in the source room lies in the wide one.
+use Rattle.std.proofs.Common.{◌≡◌, ℕ, ◌+◌, ◌≤◌, false, ltb, List, [], ◌∷◌, refl, arith}
 use Rattle.std.proofs.lemmas.Bool.{or_parts, or_from, ltb-false, le-ltb}
 use Rattle.std.specs.List.{list_any}
 use Rattle.elf_image.specs.declared.header.ProgramHeader.{ProgramHeader}
-use Rattle.elf_image.specs.declared.refusal.Room.{Room}
-use Rattle.elf_image.specs.declared.refusal.Room.TheVariants.{Source, Any}
-use Rattle.elf_image.specs.Refusals.{is_out_of_room, room_end}
-
-ends_within : (end : ℕ) (h : ProgramHeader) → is_out_of_room end h ≡ false → h.p_vaddr + h.p_memsz ≤ end
-ends_within end h e = ltb-false end (h.p_vaddr + h.p_memsz) (or_parts _ _ e).1
-
-at_place : (end i : ℕ) (hs : List ProgramHeader) (d : ProgramHeader) → list_any (is_out_of_room end) hs ≡ false → i < length hs → (get_or hs i d).p_vaddr + (get_or hs i d).p_memsz ≤ end
-at_place end i [] d e within = absurd (omega arith)
-at_place end zero (h ∷ hs) d e within = ends_within end h (or_parts _ _ e).0
-at_place end (suc i) (h ∷ hs) d e within = at_place end i hs d (or_parts (is_out_of_room end h) (list_any (is_out_of_room end) hs) e).1 (omega arith)
-
-pub within_room : (hs : List ProgramHeader) (i : ℕ) (h : ProgramHeader) → list_any (is_out_of_room 0x7C000000) hs ≡ false → i < length hs → h ≡ get_or hs i h → h.p_vaddr + h.p_memsz ≤ 0x7C000000
-within_room hs i h e within is = rw is (at_place 0x7C000000 i hs h e within)
+use Rattle.image.specs.declared.room.Room.{Room}
+use Rattle.image.specs.declared.room.Room.TheVariants.{Source, Any}
+use Rattle.elf_image.specs.Refusals.{is_out_of_room}
+use Rattle.image.specs.Rooms.{room_end}
 
 wider : (small large : ℕ) (hs : List ProgramHeader) → small ≤ large → list_any (is_out_of_room small) hs ≡ false → list_any (is_out_of_room large) hs ≡ false
 wider small large [] up e = refl

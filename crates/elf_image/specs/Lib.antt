@@ -3,10 +3,12 @@ pub mod Fields
 pub mod Overlaps
 pub mod Pages
 pub mod Refusals
+pub mod Sound
 pub mod Names
 pub mod Image
 pub mod Plain
 pub mod Reads
+pub mod Laws
 pub mod Rows
 pub mod SegmentRows
 pub mod HeaderRows

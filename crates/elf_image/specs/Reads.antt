@@ -1,7 +1,7 @@
 -- What the reading of a file answers.
 use Rattle.std.specs.Prelude.{◌≡◌, ℕ, List, None, Result, Ok, Err}
 use Rattle.image.specs.declared.image.Image.{Image}
-use Rattle.elf_image.specs.declared.refusal.Room.{Room}
+use Rattle.image.specs.declared.room.Room.{Room}
 use Rattle.elf_image.specs.declared.refusal.Refusal.{Refusal}
 use Rattle.elf_image.specs.declared.refusal.ImageError.{ImageError}
 use Rattle.elf_image.specs.declared.refusal.ImageError.TheVariants.{Refused, Memory}

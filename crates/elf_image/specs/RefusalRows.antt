@@ -1,6 +1,6 @@
 -- The causes of a refusal in their order, and their printed names.
 use Rattle.std.specs.Prelude.{◌≡◌, ℕ, List, [], ◌∷◌, map, codes}
-use Rattle.elf_image.specs.declared.refusal.Room.{Room}
+use Rattle.image.specs.declared.room.Room.{Room}
 use Rattle.elf_image.specs.declared.refusal.Refusal.TheVariants.{Short, Magic, Class, Order, Version, Kind, Machine, HeaderSize, HeaderTable, Dynamic, SegmentFile, SegmentSize, SegmentAlign, Permission, Range, SharedPage, Entry, CodeSpan, ImageSize, NotYet}
 use Rattle.elf_image.specs.Names.{refusal_name}
 use Rattle.elf_image.specs.Refusals.{tests}

@@ -1,13 +1,13 @@
 -- The nineteen causes of a refusal, in order. Sums do not wrap. (the names and the order own)
-use Rattle.std.specs.Prelude.{ℕ, ◌+◌, ◌-◌, ◌*◌, ◌/◌, ◌%◌, ◌==◌, ◌&&◌, ◌||◌, Bool, false, cond, not, leb, ltb, List, [], ◌∷◌, ◌++◌, length, map, filter, sum, max, min, Option, Some, None, slice_index}
+use Rattle.std.specs.Prelude.{ℕ, ◌+◌, ◌-◌, ◌*◌, ◌/◌, ◌%◌, ◌==◌, ◌&&◌, ◌||◌, Bool, false, cond, not, leb, ltb, List, [], ◌∷◌, ◌++◌, length, map, filter, sum, Option, Some, None, slice_index}
 use Rattle.std.specs.List.{list_any}
 use Rattle.elf_image.specs.declared.header.ProgramHeader.{ProgramHeader}
-use Rattle.elf_image.specs.declared.refusal.Room.{Room}
-use Rattle.elf_image.specs.declared.refusal.Room.TheVariants.{Source, Any}
+use Rattle.image.specs.declared.room.Room.{Room}
 use Rattle.elf_image.specs.declared.refusal.Refusal.{Refusal}
 use Rattle.elf_image.specs.declared.refusal.Refusal.TheVariants.{Short, Magic, Class, Order, Version, Kind, Machine, HeaderSize, HeaderTable, Dynamic, SegmentFile, SegmentSize, SegmentAlign, Permission, Range, SharedPage, Entry, CodeSpan, ImageSize}
 use Rattle.elf_image.specs.Fields.{has_magic, e_type, e_machine, e_entry, e_phoff, e_phentsize, e_phnum, headers_of}
 use Rattle.image.specs.Addresses.{has}
+use Rattle.image.specs.Rooms.{room_end, room_span, room_size, greatest, least}
 use Rattle.elf_image.specs.Pages.{is_segment, first_page, end_page}
 
 -- the answer that stands beside the first test that holds
@@ -18,21 +18,6 @@ first (t ∷ ts) = cond t.0 (Some t.1) (first ts)
 -- the program headers that are segments, in the order of the table
 abbrev pub segments_of : List ℕ → List ProgramHeader
 segments_of file = filter is_segment (headers_of file)
-
--- the address at which a room ends (own)
-abbrev pub room_end : Room → ℕ
-room_end Source = 0x50000000
-room_end Any = 0x7C000000
-
--- the greatest span of code in a room: 4 MiB and 320 MiB (own)
-abbrev pub room_span : Room → ℕ
-room_span Source = 0x400000
-room_span Any = 0x14000000
-
--- the greatest size of all pages in a room: 64 MiB and 512 MiB (own)
-abbrev pub room_size : Room → ℕ
-room_size Source = 0x4000000
-room_size Any = 0x20000000
 
 -- the header is of type PT_DYNAMIC (2) or PT_INTERP (3), whatever its sizes
 abbrev pub is_dynamic : ProgramHeader → Bool
@@ -74,17 +59,6 @@ has_code h = has h.p_flags 1
 -- an address lies on a page of the segment
 abbrev pub has_address : ℕ → ProgramHeader → Bool
 has_address a h = leb (first_page h) (a / 4096) && ltb (a / 4096) (end_page h)
-
--- the greatest number of a list, 0 of an empty one
-abbrev pub greatest : List ℕ → ℕ
-greatest [] = 0
-greatest (x ∷ xs) = max x (greatest xs)
-
--- the least number of a list, 0 of an empty one
-abbrev pub least : List ℕ → ℕ
-least [] = 0
-least (x ∷ []) = x
-least (x ∷ y ∷ xs) = min x (least (y ∷ xs))
 
 -- the bytes from the first page that can be run to the end of the last one, whatever lies between
 abbrev pub code_span : List ProgramHeader → ℕ

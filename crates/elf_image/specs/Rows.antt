@@ -2,8 +2,8 @@
 use Rattle.std.specs.Prelude.{◌≡◌, ℕ, ◌-◌, true, false, List, [], ◌∷◌, ◌++◌, length, Some, None, Err, slice_set, IsOkAnd}
 use Rattle.byte_lists.specs.LittleEndian.{half_bytes, word_bytes, zeros}
 use Rattle.image.specs.declared.image.Image.{Image}
-use Rattle.elf_image.specs.declared.refusal.Room.{Room}
-use Rattle.elf_image.specs.declared.refusal.Room.TheVariants.{Source}
+use Rattle.image.specs.declared.room.Room.{Room}
+use Rattle.image.specs.declared.room.Room.TheVariants.{Source}
 use Rattle.elf_image.specs.declared.refusal.Refusal.TheVariants.{Short, Class, Permission, SegmentFile}
 use Rattle.elf_image.specs.Plain.{is_plain}
 use Rattle.image.specs.Addresses.{byte_at, code_byte_at, can_write}

@@ -4,8 +4,8 @@ use Rattle.std.specs.Prelude.{◌≡◌, ℕ, Bool, true, false, List, [], ◌�
 use Rattle.byte_lists.specs.LittleEndian.{zeros}
 use Rattle.image.specs.Rows.{segment_with}
 use Rattle.elf_image.specs.declared.header.ProgramHeader.{ProgramHeader}
-use Rattle.elf_image.specs.declared.refusal.Room.{Room}
-use Rattle.elf_image.specs.declared.refusal.Room.TheVariants.{Source, Any}
+use Rattle.image.specs.declared.room.Room.{Room}
+use Rattle.image.specs.declared.room.Room.TheVariants.{Source, Any}
 use Rattle.elf_image.specs.declared.refusal.Refusal.{Refusal}
 use Rattle.elf_image.specs.declared.refusal.Refusal.TheVariants.{SegmentFile, SegmentSize, SegmentAlign, Permission, Range, SharedPage, Entry, CodeSpan, ImageSize}
 use Rattle.elf_image.specs.Refusals.{first, segment_tests}

@@ -1,7 +1,8 @@
 // How far the code of a file goes, and how many pages its segments take.
 ghost use Rattle.std.specs.Prelude.{◌≡◌, ◌<◌, ◌^◌, length, map};
 ghost use Rattle.elf_image.specs.Pages.{first_page, end_page};
-ghost use Rattle.elf_image.specs.Refusals.{greatest, least, pages_size};
+ghost use Rattle.elf_image.specs.Refusals.{pages_size};
+ghost use Rattle.image.specs.Rooms.{greatest, least};
 ghost use Rattle.elf_image.specs.Extents.{span_of};
 
 use crate::ProgramHeader;

@@ -2,7 +2,8 @@
 ghost use Rattle.std.specs.Prelude.{◌≡◌, ◌+◌, ◌<◌, ◌≤◌, ◌^◌, true, length, IfOk, All};
 ghost use Rattle.std.specs.List.{list_any};
 ghost use Rattle.elf_image.specs.Pages.{is_segment};
-ghost use Rattle.elf_image.specs.Refusals.{first, header_tests, segment_tests, room_end, room_span, room_size, is_dynamic, past_file, is_too_small, is_misaligned, is_forbidden, is_out_of_room, has_address};
+ghost use Rattle.elf_image.specs.Refusals.{first, header_tests, segment_tests, is_dynamic, past_file, is_too_small, is_misaligned, is_forbidden, is_out_of_room, has_address};
+ghost use Rattle.image.specs.Rooms.{room_end, room_span, room_size};
 
 use crate::extent::{pages_size, span_of};
 use crate::header::has_magic;

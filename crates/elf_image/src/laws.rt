@@ -1,12 +1,16 @@
-// What the definitions say of plain files, and of files and headers that are written out.
+// What the definitions say of accepted files, of plain files, and of files and headers that are written out.
+ghost use Rattle.elf_image.specs.Laws.{AcceptedFits, SourceIsAny};
 ghost use Rattle.elf_image.specs.Plain.{PlainIsAccepted, PlainIsRead};
 ghost use Rattle.elf_image.specs.HeaderRows.{FieldPlaces, HeaderCauses, HeaderPairs, HeaderTypes};
 ghost use Rattle.elf_image.specs.RefusalRows.{OrderOfCauses, PrintedNames};
 ghost use Rattle.elf_image.specs.SegmentRows.{CodeSpans, Entries, FlagSets, ImageSizes, PagesShared, RoomRanges, SegmentPairs, SizesAndOffsets, WholePages, ZeroTails};
 ghost use Rattle.elf_image.specs.Rows.{EmptyFile, MagicAlone, PlainCode, SevenFile, WritableCode, LinkedFile};
 
-/// Does nothing: its clauses are the laws by which the plain form agrees with the definition of an image.
+/// Does nothing: its clauses are the laws of accepted files, and those by which the plain form agrees with the definition
+/// of an image.
 pub fn image_laws()
+    ensures source_is_any { SourceIsAny }
+    ensures fits { AcceptedFits }
     ensures plain_is_accepted { PlainIsAccepted }
     ensures plain_is_read { PlainIsRead }
 {}

@@ -17,9 +17,10 @@ mod table;
 mod tests;
 
 pub use header::ProgramHeader;
+pub use image::Room;
 pub use laws::{
     image_laws, worked_headers, worked_images, worked_limits, worked_refusals, worked_segments,
 };
 pub use plain::is_plain;
 pub use reader::read_image;
-pub use refusal::{ImageError, Refusal, Room};
+pub use refusal::{ImageError, Refusal};

@@ -1,8 +1,8 @@
 // The segments of an image, made of the bytes of its file.
-ghost use Rattle.std.specs.Prelude.{◌≡◌, ◌+◌, ◌≤◌, false, map, IfOk};
-ghost use Rattle.std.specs.List.{list_any};
+ghost use Rattle.std.specs.Prelude.{◌≡◌, map, IfOk};
+ghost use Rattle.std.specs.List.{AllByRecursion};
 ghost use Rattle.elf_image.specs.Pages.{window, page_bytes};
-ghost use Rattle.elf_image.specs.Refusals.{is_out_of_room};
+ghost use Rattle.elf_image.specs.Sound.{IsSound};
 ghost use Rattle.elf_image.specs.Image.{segment_of};
 
 use crate::ProgramHeader;
@@ -39,9 +39,9 @@ fn page_bytes(alloc: Global, bytes: &[u8], h: ProgramHeader) -> Result<Vec<u8>, 
     Ok(page)
 }
 
-/// The segment of a header that lies below 0x7C000000.
+/// The segment of a header that passed the tests of a segment.
 fn segment_of(alloc: Global, bytes: &[u8], h: ProgramHeader) -> Result<Segment, AllocError>
-    requires { h.p_vaddr + h.p_memsz ≤ 0x7C000000 }
+    requires { IsSound h }
     ensures { IfOk result (λ segment. segment ≡ segment_of bytes.now h) }
 {
     let start = 4096 * first_page(h);
@@ -54,14 +54,14 @@ fn segment_of(alloc: Global, bytes: &[u8], h: ProgramHeader) -> Result<Segment, 
     })
 }
 
-/// The segments of headers that lie below 0x7C000000, in their order.
-#[tactic(auto, using(crate::proofs::Rooms::within_room))]
+/// The segments of headers that passed the tests of a segment, in their order.
+#[tactic(auto, using(crate::proofs::SoundHeaders::sound_at))]
 pub(crate) fn segments_of(
     alloc: Global,
     bytes: &[u8],
     headers: &[ProgramHeader],
 ) -> Result<Vec<Segment>, AllocError>
-    requires { list_any (is_out_of_room 0x7C000000) headers.now ≡ false }
+    requires { AllByRecursion IsSound headers.now }
     ensures { IfOk result (λ segments. segments.items ≡ map (segment_of bytes.now) headers.now) }
 {
     let mut segments = Vec::with_capacity(alloc, headers.len())?;

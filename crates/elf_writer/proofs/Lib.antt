@@ -5,6 +5,5 @@ pub mod Spans
 pub mod SegmentBytes
 pub mod Accepted
 pub mod Pushed
-pub mod ReadSegments
 pub mod ReadImages
 pub mod PlainFile

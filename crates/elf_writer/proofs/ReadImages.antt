@@ -1,34 +1,19 @@
--- The image of a file that the wide room accepts can be written.
-use Rattle.std.proofs.Common.{◌≡◌, ℕ, zero, suc, ◌+◌, ◌-◌, ◌*◌, ◌/◌, ◌<◌, ◌≤◌, Bool, true, false, cond, not, leb, ltb, List, [], ◌∷◌, length, map, filter, Option, None, Some, IfOk, refl, ap, sym, ◌∙◌, get_or, arith, ⊎_elim}
-use Rattle.std.specs.Prelude.{max, min}
-use Rattle.std.specs.List.{list_any, AllByRecursion, sum_by}
+-- The image of an accepted file can be written.
+use Rattle.std.proofs.Common.{◌≡◌, ℕ, zero, suc, ◌<◌, ◌≤◌, Bool, true, false, cond, List, [], ◌∷◌, length, map, filter, Option, None, Some, Ok, IfOk, refl, ap, get_or, ◌+◌, arith}
+use Rattle.std.specs.List.{AllByRecursion}
 use Rattle.std.proofs.lemmas.List.{length-map}
-use Rattle.std.proofs.lemmas.List.Sums.{sum-map, sum_by-cons}
 use Rattle.std.proofs.lemmas.Result.{IfOk-at_ok}
-use Rattle.std.proofs.lemmas.Bool.{ltb-false, ltb-true, leb-true, le-leb, lt-ltb, and_parts, and_from, or_parts, or_cases, or_left, or_right, not-false}
-use Rattle.std.proofs.lemmas.Bool.Decides.{nat_tests}
 use Rattle.elf_image.specs.declared.header.ProgramHeader.{ProgramHeader}
-use Rattle.image.specs.declared.image.Segment.{Segment}
 use Rattle.image.specs.declared.image.Image.{Image}
+use Rattle.image.specs.declared.room.Room.{Room}
 use Rattle.elf_image.specs.declared.refusal.Refusal.{Refusal}
-use Rattle.elf_image.specs.declared.refusal.Room.TheVariants.{Any}
-use Rattle.elf_image.specs.Fields.{e_entry, e_phnum, e_phoff, headers_from, headers_of}
-use Rattle.elf_image.specs.Pages.{is_segment, first_page, end_page}
-use Rattle.elf_image.specs.Refusals.{first, room_span, room_size, is_too_small, is_forbidden, is_out_of_room, room_end, shares_page, any_shares_page, has_code, has_address, greatest, least, code_span, pages_size, segments_of, tests, refusal_of}
-use Rattle.image.specs.Addresses.{holds}
+use Rattle.elf_image.specs.Fields.{e_phnum, e_phoff, headers_from, headers_of}
+use Rattle.elf_image.specs.Pages.{is_segment}
+use Rattle.elf_image.specs.Refusals.{segments_of, refusal_of}
 use Rattle.elf_image.specs.Image.{segment_of, image_if, image_of}
-use Rattle.elf_writer.specs.Wanted.{CanBeWritten, HasItsPlace, segment_end, meets, NoneMeet, runs, runs_at, run_span}
+use Rattle.elf_image.specs.Laws.{AcceptedFits}
 use Rattle.elf_writer.specs.Laws.{ReadImagesCanBeWritten}
-use Rattle.elf_writer.proofs.ReadSegments.{IsSound, all_sound, filter_each, length_filter, runs_low, has_place}
 
-abbrev segments : List ℕ → List ProgramHeader → List Segment
-segments file hs = map (segment_of file) hs
-
-all_have_places : (file : List ℕ) (hs : List ProgramHeader) → AllByRecursion IsSound hs → AllByRecursion HasItsPlace (segments file hs)
-all_have_places file [] each = tt
-all_have_places file (h ∷ hs) each = (has_place file h each.0, all_have_places file hs each.1)
-
--- ---- how many there are
 byte_below : (file : List ℕ) → AllByRecursion (λ b. b < 256) file → (i : ℕ) → get_or file i 0 < 256
 byte_below [] each i = omega arith
 byte_below (b ∷ file) each zero = each.0
@@ -39,150 +24,30 @@ unfolding headers_from
 length_headers_from file i zero = refl
 length_headers_from file i (suc n) = ap suc (length_headers_from file (i + 32) n)
 
-few_segments : (file : List ℕ) → AllByRecursion (λ b. b < 256) file → length (segments file (segments_of file)) ≤ 65535
+length_filter : (test : ProgramHeader → Bool) (hs : List ProgramHeader) → length (filter test hs) ≤ length hs
+length_filter test [] = omega arith
+length_filter test (h ∷ hs) = step (test h) (length_filter test hs)
+  where
+    step : (b : Bool) → length (filter test hs) ≤ length hs → length (cond b (h ∷ filter test hs) (filter test hs)) ≤ length (h ∷ hs)
+    step true e = omega arith
+    step false e = omega arith
+
+few_segments : (file : List ℕ) → AllByRecursion (λ b. b < 256) file → length (map (segment_of file) (segments_of file)) ≤ 65535
 few_segments file bytes =
     let a = byte_below file bytes 44 in
     let b = byte_below file bytes 45 in
     let kept = length_filter is_segment (headers_of file) in
     let all : length (headers_of file) ≡ e_phnum file = length_headers_from file (e_phoff file) (e_phnum file) in
-    let mapped : length (segments file (segments_of file)) ≡ length (segments_of file) = length-map (segments_of file) (segment_of file) in
+    let mapped : length (map (segment_of file) (segments_of file)) ≡ length (segments_of file) = length-map (segments_of file) (segment_of file) in
     omega (arith, a, b, kept, all, mapped)
 
--- ---- no two meet
-scaled_order : (x f e : ℕ) → f ≤ e → ltb (4096 * x) (4096 * f + 4096 * (e - f)) ≡ ltb x e
-scaled_order x f e h = grind (arith, nat_tests)
-
-meets_if_shares : (file : List ℕ) (h k : ProgramHeader) → meets (segment_of file h) (segment_of file k) ≡ shares_page h k
-meets_if_shares file h k =
-    rw (scaled_order (first_page h) (first_page k) (end_page k) (omega arith), scaled_order (first_page k) (first_page h) (end_page h) (omega arith)) refl
-
-none_meets : (file : List ℕ) (h : ProgramHeader) (hs : List ProgramHeader) → list_any (shares_page h) hs ≡ false → AllByRecursion (λ t. meets (segment_of file h) t ≡ false) (segments file hs)
-none_meets file h [] e = tt
-none_meets file h (k ∷ hs) e =
-    let parts = or_parts (shares_page h k) (list_any (shares_page h) hs) e in
-    (meets_if_shares file h k ∙ parts.0, none_meets file h hs parts.1)
-
-none_meet : (file : List ℕ) (hs : List ProgramHeader) → any_shares_page hs ≡ false → NoneMeet (segments file hs)
-none_meet file [] e = tt
-none_meet file (h ∷ hs) e =
-    let parts = or_parts (list_any (shares_page h) hs) (any_shares_page hs) e in
-    (none_meets file h hs parts.0, none_meet file hs parts.1)
-
--- ---- the entry
-holds_address : (file : List ℕ) (a : ℕ) (h : ProgramHeader) → has_address a h ≡ true → holds a (segment_of file h) ≡ true
-holds_address file a h e =
-    let parts = and_parts (leb (first_page h) (a / 4096)) (ltb (a / 4096) (end_page h)) e in
-    let from : first_page h ≤ a / 4096 = leb-true (first_page h) (a / 4096) parts.0 in
-    let to : a / 4096 < end_page h = ltb-true (a / 4096) (end_page h) parts.1 in
-    and_from _ _ (le-leb (4096 * first_page h) a (omega (arith, from))) (lt-ltb a (4096 * first_page h + 4096 * (end_page h - first_page h)) (omega (arith, from, to)))
-
-runs_there : (file : List ℕ) (a : ℕ) (hs : List ProgramHeader) → list_any (has_address a) (filter has_code hs) ≡ true → list_any (runs_at a) (segments file hs) ≡ true
-runs_there file a [] e = e
-runs_there file a (h ∷ hs) e = step (has_code h) refl (runs_there file a hs) e
-  where
-    step : (b : Bool) → has_code h ≡ b → (list_any (has_address a) (filter has_code hs) ≡ true → list_any (runs_at a) (segments file hs) ≡ true)
-        → list_any (has_address a) (cond b (h ∷ filter has_code hs) (filter has_code hs)) ≡ true → list_any (runs_at a) (segments file (h ∷ hs)) ≡ true
-    step true r more e =
-        let low : runs (segment_of file h) ≡ true = runs_low h.p_flags ∙ r in
-        ⊎_elim (λ x. or_left (runs_at a (segment_of file h)) (list_any (runs_at a) (segments file hs)) (and_from (runs (segment_of file h)) (holds a (segment_of file h)) low (holds_address file a h x)))
-        (λ x. or_right (runs_at a (segment_of file h)) (list_any (runs_at a) (segments file hs)) (more x)) (or_cases (has_address a h) (list_any (has_address a) (filter has_code hs)) e)
-    step false r more e = or_right (runs_at a (segment_of file h)) (list_any (runs_at a) (segments file hs)) (more e)
-
--- ---- the span of the code, and the size of all pages
-kept_alike : (file : List ℕ) (hs : List ProgramHeader) → filter runs (segments file hs) ≡ segments file (filter has_code hs)
-kept_alike file [] = refl
-kept_alike file (h ∷ hs) = ap (λ (b : Bool). cond b (segment_of file h ∷ filter runs (segments file hs)) (filter runs (segments file hs))) (runs_low h.p_flags) ∙ step (has_code h) _ (kept_alike file hs)
-  where
-    step : (b : Bool) (ss : List Segment) → ss ≡ segments file (filter has_code hs) → cond b (segment_of file h ∷ ss) ss ≡ segments file (cond b (h ∷ filter has_code hs) (filter has_code hs))
-    step true ss e = ap (λ (rs : List Segment). segment_of file h ∷ rs) e
-    step false ss e = e
-
-greatest_scaled : (file : List ℕ) (hs : List ProgramHeader) → greatest (map segment_end (segments file hs)) ≡ 4096 * greatest (map end_page hs)
-greatest_scaled file [] = refl
-greatest_scaled file (h ∷ hs) =
-    let this : segment_end (segment_of file h) ≡ 4096 * end_page h = omega arith in
-    scaled _ _ _ _ this (greatest_scaled file hs)
-  where
-    scaled : (x y z w : ℕ) → y ≡ 4096 * x → w ≡ 4096 * z → max y w ≡ 4096 * max x z
-    scaled x y z w p q = omega arith
-
-least_scaled : (file : List ℕ) (hs : List ProgramHeader) → least (map (λ s. s.start) (segments file hs)) ≡ 4096 * least (map first_page hs)
-least_scaled file [] = refl
-least_scaled file (h ∷ []) = refl
-least_scaled file (h ∷ k ∷ hs) = scaled _ _ _ (least_scaled file (k ∷ hs))
-  where
-    scaled : (x z w : ℕ) → w ≡ 4096 * z → min (4096 * x) w ≡ 4096 * min x z
-    scaled x z w q = omega arith
-
-run_span_is : (file : List ℕ) (hs : List ProgramHeader) → run_span (segments file hs) ≡ code_span hs
-run_span_is file hs = rw (kept_alike file hs) (scaled _ _ _ _ (greatest_scaled file (filter has_code hs)) (least_scaled file (filter has_code hs)))
-  where
-    scaled : (x y z w : ℕ) → y ≡ 4096 * x → w ≡ 4096 * z → y - w ≡ 4096 * (x - z)
-    scaled x y z w p q = omega arith
-
-abbrev pages : ProgramHeader → ℕ
-pages h = end_page h - first_page h
-
-sizes_are : (file : List ℕ) (hs : List ProgramHeader) → sum_by (λ s. s.size) (segments file hs) ≡ 4096 * sum_by pages hs
-sizes_are file [] = refl
-sizes_are file (h ∷ hs) =
-    sum_by-cons (λ s. s.size) (segment_of file h) (segments file hs) ∙ scaled _ _ _ (sizes_are file hs) ∙ sym (ap (λ (n : ℕ). 4096 * n) (sum_by-cons pages h hs))
-  where
-    scaled : (x z w : ℕ) → w ≡ 4096 * z → 4096 * x + w ≡ 4096 * (x + z)
-    scaled x z w q = omega arith
-
--- ---- the tests, one by one
-none_holds : (ts : List (Bool × Refusal)) → first ts ≡ None → AllByRecursion (λ t. t.0 ≡ false) ts
-none_holds [] e = tt
-none_holds (t ∷ ts) e = let parts = none_then t.0 e in (parts.0, none_holds ts parts.1)
-  where
-    none_then : (b : Bool) → cond b (Some t.1) (first ts) ≡ None → (b ≡ false) × (first ts ≡ None)
-    none_then true e = absurd cc
-    none_then false e = (refl, e)
-
-pub record Passes (n at : ℕ) (hs : List ProgramHeader) : Type 0 where
-  pub small : list_any is_too_small hs ≡ false
-  pub forbidden : list_any is_forbidden hs ≡ false
-  pub room : list_any (is_out_of_room (room_end Any)) hs ≡ false
-  pub apart : any_shares_page hs ≡ false
-  pub entered : not (list_any (has_address at) (filter has_code hs)) ≡ false
-  pub span : ltb (room_span Any) (code_span hs) ≡ false
-  pub size : ltb (room_size Any) (pages_size hs) ≡ false
-
-passes : (file : List ℕ) → refusal_of file Any ≡ None → Passes (length file) (e_entry file) (segments_of file)
-unfolding refusal_of
-passes file e =
-    let all = none_holds (tests file Any) e in
-    let of_segments = all.1.1.1.1.1.1.1.1.1.1 in
-    let from_permission = of_segments.1.1.1 in
-    let from_shared = from_permission.1.1 in
-    record {
-      small = of_segments.1.0;
-      forbidden = from_permission.0;
-      room = from_permission.1.0;
-      apart = from_shared.0;
-      entered = from_shared.1.0;
-      span = from_shared.1.1.0;
-      size = from_shared.1.1.1.0;
-    }
-
-segments_can_be_written : (file : List ℕ) → AllByRecursion (λ b. b < 256) file → refusal_of file Any ≡ None → CanBeWritten (segments file (segments_of file)) (e_entry file)
-segments_can_be_written file bytes e =
-    let hs : List ProgramHeader = segments_of file in
-    let p = passes file e in
-    record {
-      few = few_segments file bytes;
-      each = all_have_places file hs (all_sound hs (filter_each is_segment (headers_of file)) p.small p.forbidden p.room);
-      apart = none_meet file hs p.apart;
-      entered = runs_there file (e_entry file) hs (not-false (list_any (has_address (e_entry file)) (filter has_code hs)) p.entered);
-      span = rw (run_span_is file hs) (ltb-false (room_span Any) (code_span hs) p.span);
-      total = rw (sizes_are file hs ∙ sym (ap (λ (n : ℕ). 4096 * n) (sum-map pages hs))) (ltb-false (room_size Any) (pages_size hs) p.size);
-    }
-
-pub read_can_be_written : ReadImagesCanBeWritten
+few_are_read : (file : List ℕ) (room : Room) (image : Image) → image_of file room ≡ Ok image → AllByRecursion (λ b. b < 256) file → length image.segments ≤ 65535
 unfolding image_of
-read_can_be_written file image e bytes = IfOk-at_ok (λ (i : Image). CanBeWritten i.segments i.entry) e (go (refusal_of file Any) refl)
+few_are_read file room image e bytes = IfOk-at_ok (λ (i : Image). length i.segments ≤ 65535) e (go (refusal_of file room))
   where
-    go : (r : Option Refusal) → refusal_of file Any ≡ r → IfOk (image_if file r) (λ (i : Image). CanBeWritten i.segments i.entry)
-    go None none = segments_can_be_written file bytes none
-    go (Some r) some = tt
+    go : (r : Option Refusal) → IfOk (image_if file r) (λ (i : Image). length i.segments ≤ 65535)
+    go None = few_segments file bytes
+    go (Some r) = tt
+
+pub read_can_be_written : AcceptedFits → ReadImagesCanBeWritten
+read_can_be_written fits file room image e bytes = record { few = few_are_read file room image e bytes; fits = fits file room image e }

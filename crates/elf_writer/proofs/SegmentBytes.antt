@@ -7,7 +7,7 @@ use Rattle.image.specs.declared.perm.Perm.{Perm}
 use Rattle.image.specs.Addresses.{has}
 use Rattle.elf_image.specs.Pages.{first_page, file_end_page, window, zeroed_from, page_bytes}
 use Rattle.elf_image.specs.Image.{segment_of}
-use Rattle.elf_writer.specs.Wanted.{HasItsPlace}
+use Rattle.image.specs.Wanted.{HasItsPlace}
 use Rattle.elf_writer.specs.Written.{header_for, headers_for, data_of}
 
 -- the bytes at a place, if there are so many

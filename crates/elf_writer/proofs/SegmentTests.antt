@@ -5,11 +5,12 @@ use Rattle.std.proofs.lemmas.Bool.{le-ltb, lt-ltb, le-leb, ltb-true, leb-true, n
 use Rattle.std.proofs.lemmas.Bool.Decides.{nat_tests}
 use Rattle.elf_image.specs.declared.header.ProgramHeader.{ProgramHeader}
 use Rattle.image.specs.declared.image.Segment.{Segment}
-use Rattle.elf_image.specs.declared.refusal.Room.TheVariants.{Any}
+use Rattle.image.specs.declared.room.Room.TheVariants.{Any}
 use Rattle.elf_image.specs.Pages.{is_segment}
-use Rattle.elf_image.specs.Refusals.{room_end, is_dynamic, past_file, is_too_small, is_misaligned, is_forbidden, is_out_of_room, shares_page, any_shares_page, has_code, has_address}
+use Rattle.elf_image.specs.Refusals.{is_dynamic, past_file, is_too_small, is_misaligned, is_forbidden, is_out_of_room, shares_page, any_shares_page, has_code, has_address}
+use Rattle.image.specs.Rooms.{room_end}
 use Rattle.image.specs.Addresses.{holds}
-use Rattle.elf_writer.specs.Wanted.{HasItsPlace, segment_end, meets, NoneMeet, runs, runs_at}
+use Rattle.image.specs.Wanted.{HasItsPlace, segment_end, meets, NoneMeet, is_code, is_code_at}
 use Rattle.elf_writer.specs.Written.{header_for, headers_for, data_of}
 
 offset_then : (offset : ℕ) (s : Segment) → HasItsPlace s → offset % 4096 ≡ 0 → (offset + length s.bytes) % 4096 ≡ 0
@@ -83,9 +84,9 @@ holds_page offset a s e =
     let to : a < s.start + s.size = ltb-true a (s.start + s.size) parts.1 in
     rw (le-leb (s.start / 4096) (a / 4096) (omega arith), lt-ltb (a / 4096) ((s.start + s.size + 4095) / 4096) (omega arith)) refl
 
-pub entry_can_run : (offset a : ℕ) (ss : List Segment) → list_any (runs_at a) ss ≡ true → list_any (has_address a) (filter has_code (headers_for offset ss)) ≡ true
+pub entry_can_run : (offset a : ℕ) (ss : List Segment) → list_any (is_code_at a) ss ≡ true → list_any (has_address a) (filter has_code (headers_for offset ss)) ≡ true
 entry_can_run offset a [] e = e
-entry_can_run offset a (s ∷ ss) e = step (runs s) (holds a s) _ _ (holds_page offset a s) (entry_can_run (offset + length s.bytes) a ss) e
+entry_can_run offset a (s ∷ ss) e = step (is_code s) (holds a s) _ _ (holds_page offset a s) (entry_can_run (offset + length s.bytes) a ss) e
   where
     step : (b c later : Bool) (hs : List ProgramHeader) → (c ≡ true → has_address a (header_for offset s) ≡ true) → (later ≡ true → list_any (has_address a) hs ≡ true) → ((b && c) || later) ≡ true
         → list_any (has_address a) (cond b (header_for offset s ∷ hs) hs) ≡ true
@@ -94,10 +95,10 @@ entry_can_run offset a (s ∷ ss) e = step (runs s) (holds a s) _ _ (holds_page 
     step false c later hs h k e = k e
 
 -- the entry lies in the room
-pub entry_within : (a : ℕ) (ss : List Segment) → AllByRecursion HasItsPlace ss → list_any (runs_at a) ss ≡ true → a < room_end Any
+pub entry_within : (a : ℕ) (ss : List Segment) → AllByRecursion HasItsPlace ss → list_any (is_code_at a) ss ≡ true → a < room_end Any
 entry_within a [] each e = absurd (false≢true e)
 entry_within a (s ∷ ss) each e =
-    ⊎_elim (λ h. within (and_parts (runs s) (holds a s) h).1) (entry_within a ss each.1) (or_cases (runs_at a s) (list_any (runs_at a) ss) e)
+    ⊎_elim (λ h. within (and_parts (is_code s) (holds a s) h).1) (entry_within a ss each.1) (or_cases (is_code_at a s) (list_any (is_code_at a) ss) e)
   where
     within : holds a s ≡ true → a < room_end Any
     within h =

@@ -6,8 +6,9 @@ use Rattle.std.proofs.lemmas.List.Sums.{sum-map, sum_by-cons}
 use Rattle.elf_image.specs.declared.header.ProgramHeader.{ProgramHeader}
 use Rattle.image.specs.declared.image.Segment.{Segment}
 use Rattle.elf_image.specs.Pages.{first_page, end_page}
-use Rattle.elf_image.specs.Refusals.{has_code, greatest, least, code_span, pages_size}
-use Rattle.elf_writer.specs.Wanted.{HasItsPlace, segment_end, runs, run_span}
+use Rattle.elf_image.specs.Refusals.{has_code, code_span, pages_size}
+use Rattle.image.specs.Rooms.{greatest, least}
+use Rattle.image.specs.Wanted.{HasItsPlace, segment_end, is_code, span_of_code}
 use Rattle.elf_writer.specs.Written.{header_for, headers_for, data_of}
 
 abbrev page_end : Segment → ℕ
@@ -18,17 +19,17 @@ page_start s = s.start / 4096
 
 -- what is said of the headers that can be run, as of the segments that can
 kept_alike : (f : ProgramHeader → ℕ) (g : Segment → ℕ) → ((offset : ℕ) (s : Segment) → f (header_for offset s) ≡ g s) → (offset : ℕ) (ss : List Segment)
-    → map f (filter has_code (headers_for offset ss)) ≡ map g (filter runs ss)
+    → map f (filter has_code (headers_for offset ss)) ≡ map g (filter is_code ss)
 kept_alike f g same offset [] = refl
-kept_alike f g same offset (s ∷ ss) = step (runs s) _ _ (kept_alike f g same (offset + length s.bytes) ss)
+kept_alike f g same offset (s ∷ ss) = step (is_code s) _ _ (kept_alike f g same (offset + length s.bytes) ss)
   where
     step : (b : Bool) (hs : List ProgramHeader) (rs : List Segment) → map f hs ≡ map g rs → map f (cond b (header_for offset s ∷ hs) hs) ≡ map g (cond b (s ∷ rs) rs)
     step true hs rs e = let now = same offset s in cc
     step false hs rs e = e
 
-kept_each : (ss : List Segment) → AllByRecursion HasItsPlace ss → AllByRecursion HasItsPlace (filter runs ss)
+kept_each : (ss : List Segment) → AllByRecursion HasItsPlace ss → AllByRecursion HasItsPlace (filter is_code ss)
 kept_each [] each = tt
-kept_each (s ∷ ss) each = step (runs s) _ (kept_each ss each.1)
+kept_each (s ∷ ss) each = step (is_code s) _ (kept_each ss each.1)
   where
     step : (b : Bool) (rs : List Segment) → AllByRecursion HasItsPlace rs → AllByRecursion HasItsPlace (cond b (s ∷ rs) rs)
     step true rs e = (each.0, e)
@@ -58,12 +59,12 @@ least_in_pages (s ∷ t ∷ ss) each =
     scaled : (x y z w : ℕ) → 4096 * x ≡ y → 4096 * z ≡ w → 4096 * min x z ≡ min y w
     scaled x y z w p q = omega arith
 
-pub code_span_is : (offset : ℕ) (ss : List Segment) → AllByRecursion HasItsPlace ss → code_span (headers_for offset ss) ≡ run_span ss
+pub code_span_is : (offset : ℕ) (ss : List Segment) → AllByRecursion HasItsPlace ss → code_span (headers_for offset ss) ≡ span_of_code ss
 code_span_is offset ss each =
-    let ends : map end_page (filter has_code (headers_for offset ss)) ≡ map page_end (filter runs ss) = kept_alike end_page page_end (λ o s. refl) offset ss in
-    let starts : map first_page (filter has_code (headers_for offset ss)) ≡ map page_start (filter runs ss) = kept_alike first_page page_start (λ o s. refl) offset ss in
+    let ends : map end_page (filter has_code (headers_for offset ss)) ≡ map page_end (filter is_code ss) = kept_alike end_page page_end (λ o s. refl) offset ss in
+    let starts : map first_page (filter has_code (headers_for offset ss)) ≡ map page_start (filter is_code ss) = kept_alike first_page page_start (λ o s. refl) offset ss in
     let kept = kept_each ss each in
-    rw (ends, starts) (scaled _ _ _ _ (greatest_in_pages (filter runs ss) kept) (least_in_pages (filter runs ss) kept))
+    rw (ends, starts) (scaled _ _ _ _ (greatest_in_pages (filter is_code ss) kept) (least_in_pages (filter is_code ss) kept))
   where
     scaled : (x y z w : ℕ) → 4096 * x ≡ y → 4096 * z ≡ w → 4096 * (x - z) ≡ y - w
     scaled x y z w p q = omega arith

@@ -1,13 +1,16 @@
 -- The program headers of a written table, read again.
-use Rattle.std.proofs.Common.{◌≡◌, ℕ, suc, ◌+◌, ◌*◌, ◌<◌, List, [], ◌∷◌, ◌++◌, length, drop, refl, ap, sym, ◌∙◌, get_or, append_assoc, arith, length-append}
-use Rattle.std.specs.List.{flat_map, AllByRecursion}
+use Rattle.std.proofs.Common.{◌≡◌, ℕ, suc, ◌+◌, ◌*◌, ◌<◌, ◌≤◌, ◌||◌, Bool, true, false, cond, ltb, filter, append-nil, List, [], ◌∷◌, ◌++◌, length, drop, refl, ap, sym, ◌∙◌, get_or, append_assoc, arith, length-append}
+use Rattle.std.specs.List.{flat_map, list_any, AllByRecursion}
+use Rattle.std.proofs.lemmas.Bool.{ltb-true}
+use Rattle.std.proofs.lemmas.List.Folds.{list_any-append}
+use Rattle.std.proofs.lemmas.List.Elements.{filter-append}
 use Rattle.std.proofs.lemmas.List.{get_or-drop, drop-drop, drop_at}
 use Rattle.elf_image.specs.declared.header.ProgramHeader.{ProgramHeader}
 use Rattle.image.specs.declared.image.Segment.{Segment}
 use Rattle.byte_lists.specs.LittleEndian.{word_at}
 use Rattle.elf_image.specs.Fields.{header_at, headers_from}
-use Rattle.elf_writer.specs.Wanted.{HasItsPlace}
-use Rattle.elf_writer.specs.Written.{header_bytes, header_for, headers_for, table_bytes, data_of}
+use Rattle.image.specs.Wanted.{HasItsPlace}
+use Rattle.elf_writer.specs.Written.{header_bytes, headers_for, stack_header, stack_headers, program_headers, header_count, table_bytes, data_of}
 use Rattle.elf_writer.proofs.HeaderFields.{word_again}
 
 pub length_header : (h : ProgramHeader) → length (header_bytes h) ≡ 32
@@ -18,13 +21,25 @@ pub length_headers : (offset : ℕ) (ss : List Segment) → length (headers_for 
 length_headers offset [] = refl
 length_headers offset (s ∷ ss) = ap suc (length_headers (offset + length s.bytes) ss)
 
-pub length_table : (offset : ℕ) (ss : List Segment) → length (table_bytes offset ss) ≡ 32 * length ss
-length_table offset [] = refl
-length_table offset (s ∷ ss) =
-    let h : ProgramHeader = header_for offset s in
+pub length_program_headers : (offset : ℕ) (ss : List Segment) → length (program_headers offset ss) ≡ header_count (length ss)
+length_program_headers offset ss = length-append (headers_for offset ss) (stack_headers (length ss)) ∙ ap (λ (n : ℕ). n + length (stack_headers (length ss))) (length_headers offset ss)
+
+pub few_headers : (n : ℕ) → n ≤ 65535 → header_count n ≤ 65535
+few_headers n h = step (ltb n 65535) refl
+  where
+    step : (b : Bool) → ltb n 65535 ≡ b → n + length (cond b (stack_header ∷ []) []) ≤ 65535
+    step true e = omega (arith, ltb-true n 65535 e)
+    step false e = omega (arith, h)
+
+length_table : (hs : List ProgramHeader) → length (table_bytes hs) ≡ 32 * length hs
+length_table [] = refl
+length_table (h ∷ hs) =
     let one : length (header_bytes h) ≡ 32 = length_header h in
-    let more : length (table_bytes (offset + length s.bytes) ss) ≡ 32 * length ss = length_table (offset + length s.bytes) ss in
-    length-append (header_bytes h) (table_bytes (offset + length s.bytes) ss) ∙ omega (arith, one, more)
+    let more : length (table_bytes hs) ≡ 32 * length hs = length_table hs in
+    length-append (header_bytes h) (table_bytes hs) ∙ omega (arith, one, more)
+
+pub length_whole_table : (offset : ℕ) (ss : List Segment) → length (table_bytes (program_headers offset ss)) ≡ 32 * header_count (length ss)
+length_whole_table offset ss = length_table (program_headers offset ss) ∙ ap (λ (n : ℕ). 32 * n) (length_program_headers offset ss)
 
 -- a word and a header at a place of a file are the first of what stands from that place on
 word_from : (file : List ℕ) (i j : ℕ) → word_at file (i + j) ≡ word_at (drop i file) j
@@ -73,7 +88,7 @@ headers_read file i (h ∷ hs) rest at fit =
     let more : headers_from file (i + 32) (length hs) ≡ hs = headers_read file (i + 32) hs rest then fit.1 in
     cc
 
-pub headers_fit : (offset : ℕ) (ss : List Segment) → AllByRecursion HasItsPlace ss → offset + length (data_of ss) < 0x100000000 → AllByRecursion FitsWords (headers_for offset ss)
+headers_fit : (offset : ℕ) (ss : List Segment) → AllByRecursion HasItsPlace ss → offset + length (data_of ss) < 0x100000000 → AllByRecursion FitsWords (headers_for offset ss)
 headers_fit offset [] each h = tt
 headers_fit offset (s ∷ ss) each h =
     let place = each.0 in
@@ -83,3 +98,34 @@ headers_fit offset (s ∷ ss) each h =
       record { p_type = omega arith; p_offset = omega arith; p_vaddr = omega arith; p_filesz = omega arith; p_memsz = omega arith; p_flags = omega arith },
       headers_fit (offset + length s.bytes) ss each.1 (omega (arith, long)),
     )
+
+-- so does the header of the stack
+and_stack_fits : (hs : List ProgramHeader) (count : ℕ) → AllByRecursion FitsWords hs → AllByRecursion FitsWords (hs ++ stack_headers count)
+and_stack_fits [] count each = step (ltb count 65535)
+  where
+    step : (b : Bool) → AllByRecursion FitsWords (cond b (stack_header ∷ []) [])
+    step true = (record { p_type = omega arith; p_offset = omega arith; p_vaddr = omega arith; p_filesz = omega arith; p_memsz = omega arith; p_flags = omega arith }, tt)
+    step false = tt
+and_stack_fits (h ∷ hs) count each = (each.0, and_stack_fits hs count each.1)
+
+pub program_headers_fit : (offset : ℕ) (ss : List Segment) → AllByRecursion HasItsPlace ss → offset + length (data_of ss) < 0x100000000 → AllByRecursion FitsWords (program_headers offset ss)
+program_headers_fit offset ss each h = and_stack_fits (headers_for offset ss) (length ss) (headers_fit offset ss each h)
+
+-- a test that the header of the stack fails sees the headers of the segments alone
+pub among_segments : (test : ProgramHeader → Bool) (hs : List ProgramHeader) (count : ℕ) → test stack_header ≡ false → filter test (hs ++ stack_headers count) ≡ filter test hs
+among_segments test hs count e = filter-append test hs (stack_headers count) ∙ ap (λ (ks : List ProgramHeader). filter test hs ++ ks) (step (ltb count 65535)) ∙ append-nil (filter test hs)
+  where
+    step : (b : Bool) → filter test (cond b (stack_header ∷ []) []) ≡ []
+    step true = rw e refl
+    step false = refl
+
+pub any_among_segments : (test : ProgramHeader → Bool) (hs : List ProgramHeader) (count : ℕ) → test stack_header ≡ false → list_any test (hs ++ stack_headers count) ≡ list_any test hs
+any_among_segments test hs count e = list_any-append test hs (stack_headers count) ∙ ap (λ (b : Bool). list_any test hs || b) (step (ltb count 65535)) ∙ or-false (list_any test hs)
+  where
+    step : (b : Bool) → list_any test (cond b (stack_header ∷ []) []) ≡ false
+    step true = rw e refl
+    step false = refl
+
+    or-false : (b : Bool) → (b || false) ≡ b
+    or-false true = refl
+    or-false false = refl

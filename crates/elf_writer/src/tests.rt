@@ -10,24 +10,31 @@ use std::alloc::{AllocError, Global};
 use std::test::Fail;
 
 // The headers of an image with one page of code and one page of zeros.
-const HEADERS: [u8; 116] = [
+const HEADERS: [u8; 148] = [
     0x7F, 0x45, 0x4C, 0x46, 1, 1, 1, 0, 0, 0, 0, 0, 0, 0, 0, 0, 2, 0, 3, 0, 1, 0, 0, 0, 0x00, 0x90,
-    0x04, 0x08, 52, 0, 0, 0, 0, 0, 0, 0, 0, 0, 0, 0, 52, 0, 32, 0, 2, 0, 0, 0, 0, 0, 0, 0, // file
+    0x04, 0x08, 52, 0, 0, 0, 0, 0, 0, 0, 0, 0, 0, 0, 52, 0, 32, 0, 3, 0, 0, 0, 0, 0, 0, 0, // file
     1, 0, 0, 0, 0, 0x10, 0, 0, 0, 0x90, 4, 8, 0, 0x90, 4, 8, 0, 0x10, 0, 0, 0, 0x10, 0, 0, 5, 0, 0,
     0, 0, 0x10, 0, 0, // code
     1, 0, 0, 0, 0, 0x20, 0, 0, 0, 0xA0, 4, 8, 0, 0xA0, 4, 8, 0, 0, 0, 0, 0, 0x10, 0, 0, 6, 0, 0, 0,
     0, 0x10, 0, 0, // zeros
+    0x51, 0xE5, 0x74, 0x64, 0, 0, 0, 0, 0, 0, 0, 0, 0, 0, 0, 0, 0, 0, 0, 0, 0, 0, 0, 0, 6, 0, 0, 0,
+    0, 0, 0, 0, // stack
 ];
 
 // The headers of an image whose data come first: one page of two, and then a page of code. It begins at its last byte.
-const DATA_FIRST: [u8; 116] = [
+const DATA_FIRST: [u8; 148] = [
     0x7F, 0x45, 0x4C, 0x46, 1, 1, 1, 0, 0, 0, 0, 0, 0, 0, 0, 0, 2, 0, 3, 0, 1, 0, 0, 0, 0xFF, 0x9F,
-    0x04, 0x08, 52, 0, 0, 0, 0, 0, 0, 0, 0, 0, 0, 0, 52, 0, 32, 0, 2, 0, 0, 0, 0, 0, 0, 0, // file
+    0x04, 0x08, 52, 0, 0, 0, 0, 0, 0, 0, 0, 0, 0, 0, 52, 0, 32, 0, 3, 0, 0, 0, 0, 0, 0, 0, // file
     1, 0, 0, 0, 0, 0x10, 0, 0, 0, 0xA0, 4, 8, 0, 0xA0, 4, 8, 0, 0x10, 0, 0, 0, 0x20, 0, 0, 6, 0, 0,
     0, 0, 0x10, 0, 0, // data
     1, 0, 0, 0, 0, 0x20, 0, 0, 0, 0x90, 4, 8, 0, 0x90, 4, 8, 0, 0x10, 0, 0, 0, 0x10, 0, 0, 5, 0, 0,
     0, 0, 0x10, 0, 0, // code
+    0x51, 0xE5, 0x74, 0x64, 0, 0, 0, 0, 0, 0, 0, 0, 0, 0, 0, 0, 0, 0, 0, 0, 0, 0, 0, 0, 6, 0, 0, 0,
+    0, 0, 0, 0, // stack
 ];
+
+// Where zeros and data stand, right behind the page of code.
+const DATA_START: u32 = 0x0804_A000;
 
 fn plain_segments(alloc: Global) -> Result<SegmentList, AllocError>
     ensures { IfOk result (λ segments. CanBeWritten segments 0x08049000) }
@@ -39,7 +46,7 @@ fn plain_segments(alloc: Global) -> Result<SegmentList, AllocError>
         bytes: ByteList::new(vec![in alloc; 0xF4u8; 4096]?),
     };
     let zeros = Segment {
-        start: 0x0804A000,
+        start: DATA_START,
         size: 4096,
         perm: Perm(6),
         bytes: ByteList::new(Vec::new(alloc)),
@@ -51,7 +58,7 @@ fn data_and_code(alloc: Global) -> Result<SegmentList, AllocError>
     ensures { IfOk result (λ segments. CanBeWritten segments 0x08049FFF) }
 {
     let data = Segment {
-        start: 0x0804A000,
+        start: DATA_START,
         size: 8192,
         perm: Perm(6),
         bytes: ByteList::new(vec![in alloc; 7u8; 4096]?),
@@ -85,7 +92,7 @@ fn keeps_the_order_of_segments(rt: HostRuntime) -> Result<(), Fail> {
     assert_eq!(rt; file.len(), 12288);
     assert!(rt; file.starts_with(&DATA_FIRST));
     for (i, byte) in [
-        (116, 0),
+        (148, 0),
         (4095, 0),
         (4096, 7),
         (8191, 7),

@@ -1,18 +1,20 @@
 // An image as a file.
 ghost use Rattle.std.specs.Prelude.{◌≡◌, ◌<◌, ◌++◌, length, Ok, IfOk, OnOk};
-ghost use Rattle.elf_image.specs.declared.refusal.Room.TheVariants.{Any};
+ghost use Rattle.image.specs.declared.room.Room.TheVariants.{Any};
 ghost use Rattle.elf_image.specs.Image.{image_of};
-ghost use Rattle.elf_writer.specs.Wanted.{CanBeWritten, image_with};
+ghost use Rattle.elf_writer.specs.Wanted.{CanBeWritten};
+ghost use Rattle.image.specs.Wanted.{image_with};
 ghost use Rattle.elf_writer.specs.Written.{data_of, written};
 
-use crate::header::{push_elf_header, push_table};
+use crate::header::{header_count, push_elf_header, push_segment_headers, push_stack_header};
 use byte_lists::push_zeros;
 use image::{Segment, SegmentList};
 use std::alloc::{AllocError, Global};
 
 /// The file with these segments, which begins to run at the entry. Its program headers stand in the order of the
 /// segments, right after its header, and the bytes of the segments from the next multiple of 4,096 on; there are no
-/// sections. For a file that is loaded the gABI ("Program Header") wants the segments in ascending order of their
+/// sections. Behind them stands a header of type PT_GNU_STACK, by which Linux lets no page be run but those with PF_X;
+/// it is left out of a file of 65,535 segments, since e_phnum can't count it. For a file that is loaded the gABI ("Program Header") wants the segments in ascending order of their
 /// addresses. It fails only where memory runs out.
 pub fn write_image(alloc: Global, segments: &SegmentList, entry: u32) -> Result<Vec<u8>, AllocError>
     requires wanted { CanBeWritten segments.now entry }
@@ -21,11 +23,13 @@ pub fn write_image(alloc: Global, segments: &SegmentList, entry: u32) -> Result<
 {
     let segments = segments.as_slice();
     let count = segments.len();
-    let table_end = 52 + 32 * count;
+    let headers = header_count(count);
+    let table_end = 52 + 32 * headers as usize;
     let start = table_end.next_multiple_of(4096);
     let mut out = Vec::with_capacity(alloc, start + data_len(segments))?;
-    push_elf_header(&mut out, entry, count as u16)?;
-    push_table(&mut out, start as u32, segments)?;
+    push_elf_header(&mut out, entry, headers)?;
+    push_segment_headers(&mut out, start as u32, segments)?;
+    push_stack_header(&mut out, count)?;
     push_zeros(&mut out, start - table_end)?;
     push_data(&mut out, segments)?;
     Ok(out)

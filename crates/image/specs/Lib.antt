@@ -1,2 +1,5 @@
 pub mod Addresses
+pub mod Contents
+pub mod Rooms
 pub mod Rows
+pub mod Wanted

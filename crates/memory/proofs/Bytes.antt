@@ -11,18 +11,18 @@ use Rattle.memory.specs.Memory.{Place, Memory, wrapped, with_byte, put, put_all,
 use Rattle.memory.specs.MemoryLaws.{ImageHasBytes, StackHasBytes, PutAllHasBytes, ForgetHasBytes, LoadsBytes}
 
 -- a place has such a byte
-abbrev FitsPlace : Option Place → Type 0
+abbrev pub FitsPlace : Option Place → Type 0
 FitsPlace None = Unit {0}
 FitsPlace (Some p) = IsByte p.byte
 
-there : (m : Memory) (a : ℕ) → HasBytes m → FitsPlace (m a)
+pub there : (m : Memory) (a : ℕ) → HasBytes m → FitsPlace (m a)
 there m a h = cases (m a) refl
   where
     cases : (o : Option Place) → m a ≡ o → FitsPlace o
     cases None e = tt
     cases (Some p) e = h.bytes a p e
 
-from_places : (m : Memory) → ((a : ℕ) → FitsPlace (m a)) → HasBytes m
+pub from_places : (m : Memory) → ((a : ℕ) → FitsPlace (m a)) → HasBytes m
 from_places m h = record { bytes = λ a p e. let x : FitsPlace (Some p) = subst FitsPlace e (h a) in x }
 
 with_fits : (b : Byte) (o : Option Place) → IsByte b → FitsPlace o → FitsPlace (with_byte b o)

@@ -8,7 +8,7 @@ use Rattle.traces.specs.Trace.{OtherCall, Unspecified}
 use Rattle.x86_values.specs.declared.byte.Byte.TheVariants.{Known}
 use Rattle.x86_values.specs.Words.{IsByte, known, known_byte, all_known}
 use Rattle.memory.specs.Memory.{Memory, Stored, Load, Store, bytes_at, SameIn}
-use Rattle.memory.specs.SystemCall.{Request, Called, Ends, error, EBADF, EFAULT, passes, Plan, Refused, Stops, Asks, read_plan, asks_known, write_plan, after_answer, read_by, write_by, reads, writes, read_call, write_call, exit_call, transfer, call_by, system_call}
+use Rattle.memory.specs.SystemCall.{Request, Called, Ends, error, EBADF, EFAULT, passes, Plan, Refused, Stops, Asks, read_plan, asks_known, write_plan, after_answer, read_by, write_by, reads, writes, read_call, write_call, exit_call, transfer_call, call_by, system_call}
 use Rattle.memory.specs.CallLaws.{SameBuffer, CallByBuffer, SameInIsBuffer, IsPlainCall, CallsArePlain, StoresBytes, CallIsKept, CallsKeepEnvironment, LeavesInput, CallsLeaveInput}
 use Rattle.memory.proofs.Memories.{allows_in_same, bytes_in_same}
 
@@ -41,7 +41,7 @@ module _ (m n : Memory) (left : Environment) where
   unfolding write_call
   same_write fd at count h = ap (λ x. writes (cond (fd == 1 || fd == 2) (cond (count == 0) (Refused 0) x) (Refused (error EBADF))) fd left) (same_offered at count h)
 
-  same_transfer : (call : ℕ → ℕ → ℕ → Memory → Environment → Called) → ((fd at count : ℕ) → SameBuffer at count m n → call fd at count m left ≡ call fd at count n left) → (fd at count : Option ℕ) → ((a c : ℕ) → at ≡ Some a → count ≡ Some c → SameBuffer a c m n) → transfer call fd at count m left ≡ transfer call fd at count n left
+  same_transfer : (call : ℕ → ℕ → ℕ → Memory → Environment → Called) → ((fd at count : ℕ) → SameBuffer at count m n → call fd at count m left ≡ call fd at count n left) → (fd at count : Option ℕ) → ((a c : ℕ) → at ≡ Some a → count ≡ Some c → SameBuffer a c m n) → transfer_call call fd at count m left ≡ transfer_call call fd at count n left
   same_transfer call h (Some fd) (Some at) (Some count) same = h fd at count (same at count refl refl)
   same_transfer call h None at count same = refl
   same_transfer call h (Some fd) None count same = refl
@@ -52,8 +52,8 @@ module _ (m n : Memory) (left : Environment) where
   same_call (Some k) q same =
       let r = same_transfer read_call same_read (known q.fd) (known q.at) (known q.count) same in
       let w = same_transfer write_call same_write (known q.fd) (known q.at) (known q.count) same in
-      ap (λ x. cond (k == 1) (exit_call (known_byte q.fd.b0)) (cond (k == 3) x (cond (k == 4) (transfer write_call (known q.fd) (known q.at) (known q.count) m left) (Ends (OtherCall k))))) r
-      ∙ ap (λ x. cond (k == 1) (exit_call (known_byte q.fd.b0)) (cond (k == 3) (transfer read_call (known q.fd) (known q.at) (known q.count) n left) (cond (k == 4) x (Ends (OtherCall k))))) w
+      ap (λ x. cond (k == 1) (exit_call (known_byte q.fd.b0)) (cond (k == 3) x (cond (k == 4) (transfer_call write_call (known q.fd) (known q.at) (known q.count) m left) (Ends (OtherCall k))))) r
+      ∙ ap (λ x. cond (k == 1) (exit_call (known_byte q.fd.b0)) (cond (k == 3) (transfer_call read_call (known q.fd) (known q.at) (known q.count) n left) (cond (k == 4) x (Ends (OtherCall k))))) w
 
 pub by_buffer : CallByBuffer
 unfolding system_call
@@ -98,7 +98,7 @@ module _ (P : Called → Type 0) (left : Environment) where
     exit_holds None = h.stopped
     exit_holds (Some status) = h.exited status
 
-    transfer_holds : (call : ℕ → ℕ → ℕ → Memory → Environment → Called) → ((fd at count : ℕ) (m : Memory) → P (call fd at count m left)) → (fd at count : Option ℕ) (m : Memory) → P (transfer call fd at count m left)
+    transfer_holds : (call : ℕ → ℕ → ℕ → Memory → Environment → Called) → ((fd at count : ℕ) (m : Memory) → P (call fd at count m left)) → (fd at count : Option ℕ) (m : Memory) → P (transfer_call call fd at count m left)
     transfer_holds call k (Some fd) (Some at) (Some count) m = k fd at count m
     transfer_holds call k None at count m = h.stopped
     transfer_holds call k (Some fd) None count m = h.stopped

@@ -1,5 +1,5 @@
 -- The memory of the machine: at each address a byte that is mapped, known or unspecified, or nothing.
-use Rattle.std.specs.Prelude.{◌≡◌, ℕ, zero, suc, ◌+◌, ◌-◌, ◌*◌, ◌/◌, ◌%◌, ◌<◌, ◌==◌, ◌&&◌, Bool, true, false, cond, leb, ltb, List, [], ◌∷◌, length, slice_index, Option, Some, None}
+use Rattle.std.specs.Prelude.{◌≡◌, ◌≢◌, ℕ, zero, suc, ◌+◌, ◌-◌, ◌*◌, ◌/◌, ◌%◌, ◌<◌, ◌==◌, ◌&&◌, Bool, true, false, cond, leb, ltb, List, [], ◌∷◌, length, slice_index, Option, Some, None}
 use Rattle.std.specs.Option.{option_map}
 use Rattle.x86_values.specs.declared.byte.Byte.{Byte}
 use Rattle.x86_values.specs.declared.byte.Byte.TheVariants.{Known, Unspecified}
@@ -111,3 +111,19 @@ pub record HasBytes (m : Memory) : Type 0 where
 -- two memories have the same places from an address on
 pub record SameIn (at count : ℕ) (m n : Memory) : Type 0 where
   pub places : (k : ℕ) → k < count → m (wrapped (at + k)) ≡ n (wrapped (at + k))
+
+-- two memories have the same places at each address that is none of a range
+pub record SameOutside (at count : ℕ) (m n : Memory) : Type 0 where
+  pub places : (a : ℕ) → ((k : ℕ) → k < count → a ≢ wrapped (at + k)) → m a ≡ n a
+
+-- no address of a range of n is one of a range of count
+pub record AreApart (from n at count : ℕ) : Type 0 where
+  pub apart : (j k : ℕ) → j < n → k < count → wrapped (from + j) ≢ wrapped (at + k)
+
+-- each address of a range of n is one of a range of count
+pub record IsWithin (from n at count : ℕ) : Type 0 where
+  pub within : (j : ℕ) → j < n → (k : ℕ) × (k < count) × (wrapped (from + j) ≡ wrapped (at + k))
+
+-- no byte of the stack below an address is known
+pub record IsForgottenBelow (low : ℕ) (m : Memory) : Type 0 where
+  pub bytes : (a : ℕ) (p : Place) → a < low → m a ≡ Some p → p.on_stack ≡ true → p.byte ≡ Unspecified

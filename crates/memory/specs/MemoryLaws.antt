@@ -5,7 +5,7 @@ use Rattle.x86_values.specs.declared.byte.Byte.TheVariants.{Unspecified}
 use Rattle.x86_values.specs.Words.{IsByte}
 use Rattle.image.specs.declared.image.Image.{Image}
 use Rattle.image.specs.Addresses.{byte_at}
-use Rattle.memory.specs.Memory.{Memory, wrapped, with_byte, put_all, AccessKind, allows_all, bytes_at, forgotten, forget_below, memory_of, with_stack, kind_of, HasBytes, SameIn}
+use Rattle.memory.specs.Memory.{Place, Memory, wrapped, with_byte, put_all, AccessKind, allows_all, bytes_at, forgotten, forget_below, memory_of, with_stack, kind_of, HasBytes, SameIn, SameOutside, AreApart, IsWithin, IsForgottenBelow}
 
 -- bytes that are stored stand there, where places are mapped; a store may pass the end of the addresses
 abbrev pub PutAllThere : Type 0
@@ -78,6 +78,57 @@ ForgetHasBytes = (esp : ℕ) (m : Memory) → HasBytes m → HasBytes (forget_be
 abbrev pub LoadsBytes : Type 0
 LoadsBytes = (m : Memory) (at count : ℕ) → HasBytes m → All IsByte (bytes_at m at count)
 
+-- a store keeps the bytes of a range that is apart from its own, and what is allowed anywhere
+abbrev pub BytesElsewhere : Type 0
+BytesElsewhere = (at : ℕ) (bs : List Byte) (m : Memory) (from n : ℕ) → AreApart from n at (length bs) → bytes_at (put_all at bs m) from n ≡ bytes_at m from n
+
+abbrev pub AllowsAfter : Type 0
+AllowsAfter = (kind : AccessKind) (at : ℕ) (bs : List Byte) (m : Memory) (from n : ℕ) → allows_all kind (put_all at bs m) from n ≡ allows_all kind m from n
+
+-- two ranges are apart where one ends before the other begins, and the other before the first begins again at 2^32
+abbrev pub ApartInOrder : Type 0
+ApartInOrder = (from n at count : ℕ) → from + n ≤ at → at + count ≤ from + 2 ^ 32 → AreApart from n at count
+
+abbrev pub ApartSymmetric : Type 0
+ApartSymmetric = (from n at count : ℕ) → AreApart from n at count → AreApart at count from n
+
+-- a range is within another where it begins no earlier and ends no later
+abbrev pub WithinInOrder : Type 0
+WithinInOrder = (from n at count : ℕ) → at ≤ from → from + n ≤ at + count → IsWithin from n at count
+
+-- memories that are the same outside a range stay so where both are stored to alike, where one alone is stored to within the
+-- range, and where bytes are forgotten in both
+abbrev pub SameOutsidePut : Type 0
+SameOutsidePut = (at count from : ℕ) (bs : List Byte) (m n : Memory) → SameOutside at count m n → SameOutside at count (put_all from bs m) (put_all from bs n)
+
+abbrev pub SameOutsidePutWithin : Type 0
+SameOutsidePutWithin = (at count from : ℕ) (bs : List Byte) (m n : Memory) → IsWithin from (length bs) at count → SameOutside at count m n → SameOutside at count (put_all from bs m) n
+
+abbrev pub SameOutsideForget : Type 0
+SameOutsideForget = (at count esp : ℕ) (m n : Memory) → SameOutside at count m n → SameOutside at count (forget_below esp m) (forget_below esp n)
+
+abbrev pub SameOutsideSymmetric : Type 0
+SameOutsideSymmetric = (at count : ℕ) (m n : Memory) → SameOutside at count m n → SameOutside at count n m
+
+-- they allow the same in a range that is apart from it, and have the same bytes there
+abbrev pub AllowsOutside : Type 0
+AllowsOutside = (kind : AccessKind) (at count from size : ℕ) (m n : Memory) → AreApart from size at count → SameOutside at count m n → allows_all kind m from size ≡ allows_all kind n from size
+
+abbrev pub BytesOutside : Type 0
+BytesOutside = (at count from size : ℕ) (m n : Memory) → AreApart from size at count → SameOutside at count m n → bytes_at m from size ≡ bytes_at n from size
+
+-- after forgetting below esp no byte of the stack is known below it
+abbrev pub ForgetIsForgotten : Type 0
+ForgetIsForgotten = (esp : ℕ) (m : Memory) → IsForgottenBelow esp (forget_below esp m)
+
+-- where none is known below an address, forgetting changes no place below it
+abbrev pub ForgetAsInvariant : Type 0
+ForgetAsInvariant = (low high : ℕ) (m : Memory) (a : ℕ) → IsForgottenBelow low m → a < low → forget_below high m a ≡ m a
+
+-- and a store makes bytes of the stack below it known in its own places alone
+abbrev pub StoreExposes : Type 0
+StoreExposes = (low at : ℕ) (bs : List Byte) (m : Memory) (a : ℕ) (p : Place) → IsForgottenBelow low m → ((k : ℕ) → k < length bs → a ≢ wrapped (at + k)) → a < low → put_all at bs m a ≡ Some p → p.on_stack ≡ true → p.byte ≡ Unspecified
+
 -- the laws of memory
 pub record MemoryLaws : Type 0 where
   pub put_all_there : PutAllThere
@@ -100,3 +151,17 @@ pub record MemoryLaws : Type 0 where
   pub put_all_has_bytes : PutAllHasBytes
   pub forget_has_bytes : ForgetHasBytes
   pub loads_bytes : LoadsBytes
+  pub bytes_elsewhere : BytesElsewhere
+  pub allows_after : AllowsAfter
+  pub apart_in_order : ApartInOrder
+  pub apart_symmetric : ApartSymmetric
+  pub within_in_order : WithinInOrder
+  pub same_outside_put : SameOutsidePut
+  pub same_outside_put_within : SameOutsidePutWithin
+  pub same_outside_forget : SameOutsideForget
+  pub same_outside_symmetric : SameOutsideSymmetric
+  pub allows_outside : AllowsOutside
+  pub bytes_outside : BytesOutside
+  pub forget_is_forgotten : ForgetIsForgotten
+  pub forget_as_invariant : ForgetAsInvariant
+  pub store_exposes : StoreExposes

@@ -101,17 +101,17 @@ exit_call None = Ends Unspecified
 exit_call (Some status) = Ends (Exited status)
 
 -- the descriptor, the address and the count have to be known (own)
-abbrev pub transfer : (ℕ → ℕ → ℕ → Memory → Environment → Called) → Option ℕ → Option ℕ → Option ℕ → Memory → Environment → Called
-transfer call (Some fd) (Some at) (Some count) m left = call fd at count m left
-transfer call _ _ _ m left = Ends Unspecified
+abbrev pub transfer_call : (ℕ → ℕ → ℕ → Memory → Environment → Called) → Option ℕ → Option ℕ → Option ℕ → Memory → Environment → Called
+transfer_call call (Some fd) (Some at) (Some count) m left = call fd at count m left
+transfer_call call _ _ _ m left = Ends Unspecified
 
 -- so has the number; a number other than these three ends the run (own)
 abbrev pub call_by : Option ℕ → Request → Memory → Environment → Called
 call_by None q m left = Ends Unspecified
 call_by (Some n) q m left =
     cond (n == 1) (exit_call (known_byte q.fd.b0))
-    (cond (n == 3) (transfer read_call (known q.fd) (known q.at) (known q.count) m left)
-    (cond (n == 4) (transfer write_call (known q.fd) (known q.at) (known q.count) m left)
+    (cond (n == 3) (transfer_call read_call (known q.fd) (known q.at) (known q.count) m left)
+    (cond (n == 4) (transfer_call write_call (known q.fd) (known q.at) (known q.count) m left)
     (Ends (OtherCall n))))
 
 -- the effect of a call over a memory

@@ -3,4 +3,7 @@
 
 mod laws;
 
-pub use laws::{call_laws, memory_laws, worked_memory};
+pub use laws::{
+    call_laws, less_specified_memory_laws, memory_laws, worked_less_specified, worked_memory,
+    worked_ranges,
+};

@@ -6,7 +6,7 @@ use Rattle.image.specs.declared.image.Image.{Image}
 use Rattle.image.specs.declared.image.Segment.{Segment}
 use Rattle.elf_image.specs.declared.refusal.Refusal.{Refusal}
 use Rattle.elf_image.specs.declared.refusal.Refusal.TheVariants.{NotYet}
-use Rattle.elf_image.specs.declared.refusal.Room.TheVariants.{Source}
+use Rattle.image.specs.declared.room.Room.TheVariants.{Source}
 use Rattle.elf_image.specs.Fields.{has_magic}
 use Rattle.elf_image.specs.Refusals.{refusal_of}
 use Rattle.elf_image.specs.Image.{image_of, image_if}

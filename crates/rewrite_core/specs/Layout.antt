@@ -2,7 +2,7 @@
 use Rattle.std.specs.Prelude.{◌≡◌, ◌⊎◌, ℕ, ◌+◌, ◌*◌, ◌/◌, ◌<◌, ◌≤◌, List, [], ◌∷◌, ◌++◌, length, take, drop, replicate, slice_index, Some, None, Ok}
 use Rattle.image.specs.declared.image.Segment.{Segment}
 use Rattle.image.specs.declared.image.Image.{Image}
-use Rattle.elf_image.specs.declared.refusal.Room.TheVariants.{Any}
+use Rattle.image.specs.declared.room.Room.TheVariants.{Any}
 use Rattle.image.specs.Addresses.{code_byte_at, code_bytes}
 use Rattle.elf_image.specs.Image.{image_of}
 use Rattle.elf_image.specs.Plain.{room_segment}

@@ -2,7 +2,7 @@
 use Rattle.std.specs.Prelude.{◌≡◌, ℕ, List, Some, None, Result, Ok, Err}
 use Rattle.elf_image.specs.declared.refusal.Refusal.{Refusal}
 use Rattle.elf_image.specs.declared.refusal.Refusal.TheVariants.{NotYet}
-use Rattle.elf_image.specs.declared.refusal.Room.TheVariants.{Source, Any}
+use Rattle.image.specs.declared.room.Room.TheVariants.{Source, Any}
 use Rattle.elf_image.specs.Refusals.{refusal_of}
 use Rattle.elf_image.specs.Image.{image_of}
 use Rattle.elf_image.specs.Plain.{plain_image}

@@ -1,6 +1,6 @@
 // The written file.
 ghost use Rattle.std.specs.Prelude.{◌≡◌, ◌≤◌, length, IfOk, Ok};
-ghost use Rattle.elf_image.specs.declared.refusal.Room.TheVariants.{Any};
+ghost use Rattle.image.specs.declared.room.Room.TheVariants.{Any};
 ghost use Rattle.elf_image.specs.Image.{image_of};
 ghost use Rattle.rewrite_core.specs.Layout.{in_pages, new_file, new_image};
 
@@ -26,6 +26,7 @@ fn in_pages(code: Vec<u8>) -> Result<Vec<u8>, AllocError>
 /// The segments of the new image: the old page of code, which can't be run, a page of zeros, and the new code.
 fn new_segments(alloc: Global, text: &[u8], code: Vec<u8>) -> Result<SegmentList, AllocError>
     requires page { length text.now ≡ 4096 }
+    requires some { 1 ≤ length code.items }
     requires few { length code.items ≤ 0x14000000 }
     ensures { IfOk result (λ segments. segments ≡ (new_image text.now code.items).segments) }
 {

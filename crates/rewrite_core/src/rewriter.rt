@@ -51,7 +51,8 @@ pub fn rewrite(alloc: Global, bytes: &[u8]) -> Result<Rewritten, RewriteError>
         return Err(RewriteError::Refused(Refusal::NotYet));
     }
     image_laws();
-    let text = image.segments.as_slice()[0].bytes.as_slice();
+    let segment = &image.segments.as_slice()[0];
+    let text = segment.bytes.as_slice();
     front_laws();
     let Some(code) = lay(alloc, text)? else {
         return Err(RewriteError::Refused(Refusal::NotYet));

@@ -3,8 +3,9 @@ ghost use Rattle.std.specs.Prelude.{◌≡◌, MatchResult, IsErrAnd};
 ghost use Rattle.sw_host.specs.Told.{HasCause};
 ghost use Rattle.sw_cli.specs.Counts.{CountsErr, IsFaultOf};
 
-use crate::transfer::{read_front, write_whole};
+use crate::transfer::{read_front, synced, write_whole};
 use std::alloc::Global;
+use std::fs::OpenFile;
 use std::io::ErrorKind;
 use std::rt::Files;
 use std::{fs, io};
@@ -51,10 +52,12 @@ impl<R: Files + Eprint> RealHost<R> {
         read_front(alloc, &mut file, limit)
     }
 
-    // A file that wasn't there is made readable and writable, and no file is marked executable.
+    // A file that wasn't there is made readable and writable, and no file is marked executable. The sync shows the errors of
+    // a device that takes the bytes later; the kit's close shows none.
     fn write_file(&self, name: &str, bytes: &[u8]) -> io::Result<()> {
         let mut file = fs::create(&self.rt, name)?;
-        write_whole(&mut file, bytes)
+        write_whole(&mut file, bytes)?;
+        synced(file.sync_data())
     }
 }
 

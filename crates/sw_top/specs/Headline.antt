@@ -2,7 +2,7 @@
 use Rattle.std.specs.Prelude.{◌≡◌, ◌≢◌, ℕ, List, Option, Some, None, Ok}
 use Rattle.std.specs.FinMap.{get}
 use Rattle.image.specs.declared.image.Image.{Image}
-use Rattle.elf_image.specs.declared.refusal.Room.TheVariants.{Source, Any}
+use Rattle.image.specs.declared.room.Room.TheVariants.{Source, Any}
 use Rattle.elf_image.specs.Image.{image_of}
 use Rattle.rewrite_core.specs.Agreement.{RunsAgree}
 use Rattle.sw_host.specs.Told.{Told}

@@ -15,6 +15,8 @@ use Rattle.memory.specs.Memory.{AccessKind, Load, Store, put, put_all, allows_al
 use Rattle.memory.specs.SystemCall.{Asks, read_plan, read_call, write_call, system_call}
 use Rattle.x86_code.specs.Code.{code_of}
 use Rattle.x86_meaning.specs.Registers.{with_register}
+use Rattle.x86_meaning.specs.Transfers.{transfer}
+use Rattle.x86_meaning.specs.Computing.{compute}
 use Rattle.x86_meaning.specs.Effect.{accesses, effect}
 use Rattle.x86_meaning.specs.Step.{settled, finish, step, next}
 use Rattle.x86_meaning.specs.Run.{IsStart, start_over, run_from}
@@ -23,27 +25,27 @@ use Rattle.x86_meaning.specs.CallRows.{end_rows, write_rows, read_rows, rule_row
 use Rattle.x86_meaning.specs.MoveRows.{register_rows, memory_rows}
 
 pub end_rows_seen : AreSeen end_rows
-unfolding word_of known all_known run segment_at code_bytes front read_from numbers sib_at after_m m_at plain_at after_opcode after_escape at_opcode entry_of put put_all allows_all bytes_at forget_below memory_of with_stack read_call write_call system_call with_register accesses effect settled finish step next code_of start_over run_from
+unfolding word_of known all_known run segment_at code_bytes front read_from numbers sib_at after_m m_at plain_at after_opcode after_escape at_opcode entry_of put put_all allows_all bytes_at forget_below memory_of with_stack read_call write_call system_call with_register accesses effect settled finish step next code_of start_over run_from transfer compute
 end_rows_seen = ((refl, refl), ((refl, refl), ((refl, refl), ((refl, refl), ((refl, refl), ((refl, refl), ((refl, refl), ((refl, refl), ((refl, refl), ((refl, refl), ((refl, refl), tt)))))))))))
 
 pub write_rows_seen : AreSeen write_rows
-unfolding word_of known all_known run segment_at code_bytes front read_from numbers sib_at after_m m_at plain_at after_opcode after_escape at_opcode entry_of put put_all allows_all bytes_at forget_below memory_of with_stack read_call write_call system_call with_register accesses effect settled finish step next code_of start_over run_from
+unfolding word_of known all_known run segment_at code_bytes front read_from numbers sib_at after_m m_at plain_at after_opcode after_escape at_opcode entry_of put put_all allows_all bytes_at forget_below memory_of with_stack read_call write_call system_call with_register accesses effect settled finish step next code_of start_over run_from transfer compute
 write_rows_seen = ((refl, refl), ((refl, refl), ((refl, refl), ((refl, refl), ((refl, refl), ((refl, refl), ((refl, refl), ((refl, refl), ((refl, refl), ((refl, refl), ((refl, refl), ((refl, refl), tt))))))))))))
 
 pub read_rows_seen : AreSeen read_rows
-unfolding word_of known all_known run segment_at code_bytes front read_from numbers sib_at after_m m_at plain_at after_opcode after_escape at_opcode entry_of put put_all allows_all bytes_at forget_below memory_of with_stack read_call write_call system_call with_register accesses effect settled finish step next code_of start_over run_from
+unfolding word_of known all_known run segment_at code_bytes front read_from numbers sib_at after_m m_at plain_at after_opcode after_escape at_opcode entry_of put put_all allows_all bytes_at forget_below memory_of with_stack read_call write_call system_call with_register accesses effect settled finish step next code_of start_over run_from transfer compute
 read_rows_seen = ((refl, refl), ((refl, refl), ((refl, refl), ((refl, refl), ((refl, refl), ((refl, refl), ((refl, refl), ((refl, refl), ((refl, refl), tt)))))))))
 
 pub rule_rows_seen : AreSeen rule_rows
-unfolding word_of known all_known run segment_at code_bytes front read_from numbers sib_at after_m m_at plain_at after_opcode after_escape at_opcode entry_of put put_all allows_all bytes_at forget_below memory_of with_stack read_call write_call system_call with_register accesses effect settled finish step next code_of start_over run_from
+unfolding word_of known all_known run segment_at code_bytes front read_from numbers sib_at after_m m_at plain_at after_opcode after_escape at_opcode entry_of put put_all allows_all bytes_at forget_below memory_of with_stack read_call write_call system_call with_register accesses effect settled finish step next code_of start_over run_from transfer compute
 rule_rows_seen = ((refl, refl), ((refl, refl), ((refl, refl), ((refl, refl), ((refl, refl), ((refl, refl), ((refl, refl), ((refl, refl), ((refl, refl), tt)))))))))
 
 pub register_rows_seen : AreSeen register_rows
-unfolding word_of known all_known run segment_at code_bytes front read_from numbers sib_at after_m m_at plain_at after_opcode after_escape at_opcode entry_of put put_all allows_all bytes_at forget_below memory_of with_stack read_call write_call system_call with_register accesses effect settled finish step next code_of start_over run_from
+unfolding word_of known all_known run segment_at code_bytes front read_from numbers sib_at after_m m_at plain_at after_opcode after_escape at_opcode entry_of put put_all allows_all bytes_at forget_below memory_of with_stack read_call write_call system_call with_register accesses effect settled finish step next code_of start_over run_from transfer compute
 register_rows_seen = ((refl, refl), ((refl, refl), ((refl, refl), ((refl, refl), ((refl, refl), ((refl, refl), ((refl, refl), ((refl, refl), tt))))))))
 
 pub memory_rows_seen : AreSeen memory_rows
-unfolding word_of known all_known run segment_at code_bytes front read_from numbers sib_at after_m m_at plain_at after_opcode after_escape at_opcode entry_of put put_all allows_all bytes_at forget_below memory_of with_stack read_call write_call system_call with_register accesses effect settled finish step next code_of start_over run_from
+unfolding word_of known all_known run segment_at code_bytes front read_from numbers sib_at after_m m_at plain_at after_opcode after_escape at_opcode entry_of put put_all allows_all bytes_at forget_below memory_of with_stack read_call write_call system_call with_register accesses effect settled finish step next code_of start_over run_from transfer compute
 memory_rows_seen = ((refl, refl), ((refl, refl), ((refl, refl), ((refl, refl), ((refl, refl), ((refl, refl), ((refl, refl), ((refl, refl), ((refl, refl), ((refl, refl), ((refl, refl), ((refl, refl), ((refl, refl), ((refl, refl), ((refl, refl), tt)))))))))))))))
 
 -- ---- starts and environments

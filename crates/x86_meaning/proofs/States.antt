@@ -13,12 +13,12 @@ use Rattle.image.specs.Addresses.{segment_at}
 use Rattle.memory.specs.Memory.{Place, Memory, Stored, put_all, store_all, forgotten, forget_below, place_in, memory_of, with_stack, kind_of}
 use Rattle.memory.specs.MemoryLaws.{MemoryLaws}
 use Rattle.memory.specs.SystemCall.{Called, Ends, Gives, system_call}
-use Rattle.x86_types.specs.declared.instr.Instr.{Instr}
 use Rattle.x86_code.specs.Code.{Code}
+use Rattle.x86_meaning.specs.Outcomes.{Way}
 use Rattle.x86_meaning.specs.Step.{State, settled, at_address, request_of, after_call, finish, performed, next}
 use Rattle.x86_meaning.specs.Run.{start_over, start_of, IsStart}
 use Rattle.x86_meaning.specs.StepLaws.{IsForgotten}
-use Rattle.x86_meaning.proofs.Cases.{made, settled_holds, finish_holds, step_holds, next_holds}
+use Rattle.x86_meaning.proofs.Cases.{settled_holds, finish_holds, step_holds, next_holds}
 
 -- what holds of the state to which a move goes, if it goes on
 abbrev pub Reaches : (State → Type 0) → Move State → Type 0
@@ -64,15 +64,12 @@ module _ (laws : MemoryLaws) where
   after_called m (Ends e) s k = tt
   after_called m (Gives ls result stores left) s k = after_settled m ls _ (λ a. stores_keep stores s.memory a ∙ k a)
 
-  after_finish : (m : Memory) (i : Instr) (len : ℕ) (s : State) → Kept m s.memory → Reaches (IsAfter m) (finish (made i len s).way (s.eip + len) (performed (made i len s) s))
-  after_finish m i len s k =
-      let t : State = performed (made i len s) s in
-      let kept : Kept m t.memory = λ a. stores_keep (made i len s).stores s.memory a ∙ k a in
-      finish_holds (Reaches (IsAfter m)) (made i len s).way (s.eip + len) t (λ e h. tt) (λ a. after_settled m [] (at_address a t) kept) (after_settled m [] t kept)
-      (λ a. after_called m (system_call (request_of t.cpu) t.memory t.left) (at_address a t) kept)
+  after_finish : (m : Memory) (w : Way) (n : ℕ) (t : State) → Kept m t.memory → Reaches (IsAfter m) (finish w n t)
+  after_finish m w n t k =
+      finish_holds (Reaches (IsAfter m)) w n t (λ a. after_settled m [] (at_address a t) k) (after_settled m [] t k) (λ a. after_called m (system_call (request_of t.cpu) t.memory t.left) (at_address a t) k)
 
   after_next : (code : Code) (s : State) → Reaches (IsAfter s.memory) (next code s)
-  after_next code s = next_holds (Reaches (IsAfter s.memory)) code s tt (λ i len. step_holds (Reaches (IsAfter s.memory)) i len s tt (after_finish s.memory i len s (λ a. refl)))
+  after_next code s = next_holds (Reaches (IsAfter s.memory)) code s tt (λ i len. step_holds (Reaches (IsAfter s.memory)) i len s (λ x. tt) (λ e h. after_finish s.memory e.way (s.eip + len) (performed e s) (stores_keep e.stores s.memory)))
 
   pub step_forgets : (code : Code) (s t : State) (ls : List Label) → next code s ≡ Go ls t → IsForgotten t
   step_forgets code s t ls h = (reached (IsAfter s.memory) (next code s) ls t h (after_next code s)).0

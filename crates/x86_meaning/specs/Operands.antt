@@ -4,6 +4,7 @@ use Rattle.std.specs.Option.{option_map}
 use Rattle.x86_values.specs.declared.byte.Byte.{Byte}
 use Rattle.x86_values.specs.declared.word.Word.{Word}
 use Rattle.x86_values.specs.Words.{word_of, known, word_list, padded}
+use Rattle.x86_values.specs.Sizes.{no_word}
 use Rattle.memory.specs.Memory.{Memory, AccessKind, bytes_at}
 use Rattle.x86_types.specs.declared.operand.Reg.{Reg}
 use Rattle.x86_types.specs.declared.operand.Address.{Address}
@@ -15,11 +16,12 @@ use Rattle.x86_types.specs.declared.width.Width.{Width}
 use Rattle.x86_types.specs.declared.width.Width.TheVariants.{One, Two, Four}
 use Rattle.x86_meaning.specs.Registers.{Registers, Naming}
 
--- an operand is bytes of a register's place from an index on, or of memory from an address on, or a constant
+-- where an operand stands: in a register's place from the byte with an index on, in memory from an address on, or nowhere, since it
+-- is a number of the instruction's own, which may be unspecified
 pub data Location : Type 0 where
   InRegister : (place : ℕ) → (index : ℕ) → Location
   InMemory : (at : ℕ) → Location
-  Immediate : (number : ℕ) → Location
+  Constant : (number : Option ℕ) → Location
 
 -- that of a register field, by its width
 abbrev pub field : Naming → Width → Reg → Location
@@ -49,7 +51,15 @@ location_of v regs w (rm.Mem a) = option_map InMemory (effective_address v regs 
 abbrev pub source_of : Naming → Registers → Width → Src → Option Location
 source_of v regs w (src.Reg r) = Some (field v w r)
 source_of v regs w (src.Mem a) = option_map InMemory (effective_address v regs a)
-source_of v regs w (src.Imm n) = Some (Immediate n)
+source_of v regs w (src.Imm n) = Some (Constant (Some n))
+
+-- an operand of so many bytes
+pub record SizedOperand : Type 0 where
+  pub size : ℕ
+  pub location : Location
+
+abbrev pub operand : ℕ → Location → SizedOperand
+operand size l = record { size = size; location = l }
 
 -- an access of memory, of so many bytes from an address on
 pub record Access : Type 0 where
@@ -57,18 +67,33 @@ pub record Access : Type 0 where
   pub at : ℕ
   pub size : ℕ
 
--- what a location is accessed by, if it is memory
-abbrev pub access : AccessKind → ℕ → Location → List Access
-access kind size (InRegister p i) = []
-access kind size (InMemory at) = record { kind = kind; at = at; size = size } ∷ []
-access kind size (Immediate n) = []
+-- what an operand is accessed by, before other accesses, if it stands in memory
+abbrev pub access : AccessKind → ℕ → Location → List Access → List Access
+access kind size (InRegister p i) more = more
+access kind size (InMemory at) more = record { kind = kind; at = at; size = size } ∷ more
+access kind size (Constant n) more = more
 
--- the bytes of a location
+-- the accesses of operands, in order
+abbrev pub accesses_of : AccessKind → List SizedOperand → List Access
+accesses_of kind [] = []
+accesses_of kind (o ∷ os) = access kind o.size o.location (accesses_of kind os)
+
+-- the word of a number, of which nothing is known where there is none
+abbrev pub word_if : Option ℕ → Word
+word_if None = no_word
+word_if (Some n) = word_of n
+
+-- the bytes of an operand
 abbrev pub bytes_in : ℕ → Location → Registers → Memory → List Byte
 bytes_in size (InRegister p i) regs m = take size (drop i (word_list (regs p)))
 bytes_in size (InMemory at) regs m = bytes_at m at size
-bytes_in size (Immediate n) regs m = take size (word_list (word_of n))
+bytes_in size (Constant n) regs m = take size (word_list (word_if n))
 
--- the value of a location: its bytes, and zeros above them
-abbrev pub value_in : ℕ → Location → Registers → Memory → Word
-value_in size from regs m = padded (bytes_in size from regs m)
+-- the value of an operand: its bytes, and zeros above them
+abbrev pub value_in : SizedOperand → Registers → Memory → Word
+value_in o regs m = padded (bytes_in o.size o.location regs m)
+
+-- the values of operands, in order
+abbrev pub values_in : List SizedOperand → Registers → Memory → List Word
+values_in [] regs m = []
+values_in (o ∷ os) regs m = value_in o regs m ∷ values_in os regs m

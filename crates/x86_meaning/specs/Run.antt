@@ -1,8 +1,8 @@
 -- Runs of programs. The instructions and the memory that a run begins with are two things.
-use Rattle.std.specs.Prelude.{◌≡◌, ℕ, ◌+◌, ◌%◌, ◌<◌, ◌≤◌, ◌==◌, cond, List, length, All, None}
+use Rattle.std.specs.Prelude.{◌≡◌, ℕ, ◌+◌, ◌%◌, ◌<◌, ◌≤◌, ◌==◌, cond, List, length, All}
 use Rattle.outside.specs.Environment.{Environment}
-use Rattle.x86_values.specs.declared.word.Flags.{Flags}
 use Rattle.x86_values.specs.Words.{word_of}
+use Rattle.x86_values.specs.Results.{no_flags}
 use Rattle.traces.specs.Trace.{Move, Behaviour, run}
 use Rattle.traces.specs.Machines.{turned}
 use Rattle.image.specs.declared.image.Image.{Image}
@@ -10,9 +10,6 @@ use Rattle.memory.specs.Memory.{Memory, memory_of, with_stack}
 use Rattle.x86_code.specs.Code.{Code, code_of}
 use Rattle.x86_meaning.specs.Registers.{Registers, Processor}
 use Rattle.x86_meaning.specs.Step.{State, next}
-
-abbrev pub no_flags : Flags
-no_flags = record { cf = None; pf = None; zf = None; sf = None; of = None }
 
 abbrev pub first_registers : ℕ → Registers
 first_registers esp0 k = cond (k == 4) (word_of esp0) (word_of 0)

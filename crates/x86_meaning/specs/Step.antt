@@ -1,15 +1,18 @@
 -- The state of the machine, and one step: the accesses are judged, the effect is made, and the step is finished.
-use Rattle.std.specs.Prelude.{ℕ, ◌+◌, ◌&&◌, Bool, true, false, List, [], ◌∷◌, Option, Some, None}
+use Rattle.std.specs.Prelude.{ℕ, ◌+◌, ◌&&◌, Bool, true, false, List, [], ◌∷◌, Option, Some, None, Result, Ok, Err}
 use Rattle.x86_values.specs.Words.{word_of, known}
 use Rattle.outside.specs.Environment.{Environment}
-use Rattle.traces.specs.Trace.{Label, MemoryFault, Outside, Unspecified, Move, Stand, Go, Halt}
+use Rattle.traces.specs.Trace.{Label, End, MemoryFault, DivideFault, Outside, Unspecified, Move, Stand, Go, Halt}
 use Rattle.memory.specs.Memory.{Memory, wrapped, AccessKind, Load, Store, allows_all, store_all, forget_below}
 use Rattle.memory.specs.SystemCall.{Request, Called, Ends, Gives, system_call}
 use Rattle.x86_types.specs.declared.instr.Instr.{Instr}
 use Rattle.x86_code.specs.Code.{Code}
+use Rattle.x86_meaning.specs.declared.stop.Stop.{Stop}
+use Rattle.x86_meaning.specs.declared.stop.Stop.TheVariants as stop
 use Rattle.x86_meaning.specs.Registers.{Processor, with_register, machine_naming}
 use Rattle.x86_meaning.specs.Operands.{Access}
-use Rattle.x86_meaning.specs.Effect.{Way, Falls, JumpsBy, JumpsTo, Repeats, Calls, Halts, Effect, accesses, effect}
+use Rattle.x86_meaning.specs.Outcomes.{Way, Falls, JumpsBy, JumpsTo, Repeats, Calls}
+use Rattle.x86_meaning.specs.Effect.{Effect, accesses, effect}
 
 pub record State : Type 0 where
   pub cpu : Processor
@@ -62,29 +65,29 @@ finish (JumpsBy by) next s = settled [] (at_address (next + by) s)
 finish (JumpsTo target) next s = settled [] (at_address target s)
 finish Repeats next s = settled [] s
 finish Calls next s = after_call (system_call (request_of s.cpu) s.memory s.left) (at_address next s)
-finish (Halts e) next s = Halt [] e
 
 -- ---- the step
 abbrev pub performed : Effect → State → State
 performed e s = record s { cpu = e.cpu; memory = store_all e.stores s.memory }
 
--- the stores are judged after an end of the effect
+abbrev pub end_of : Stop → End
+end_of stop.MemoryFault = MemoryFault
+end_of stop.DivideFault = DivideFault
+end_of stop.Unspecified = Unspecified
+
+-- the stores are judged after the effect, so that one that faults leaves nothing half done
 abbrev pub by_stores : Bool → Effect → ℕ → State → Move State
-by_stores false e next s = Halt [] MemoryFault
+by_stores false e next s = Halt [] (end_of stop.MemoryFault)
 by_stores true e next s = finish e.way next (performed e s)
 
-abbrev pub by_way : Way → Bool → Effect → ℕ → State → Move State
-by_way Falls stores e next s = by_stores stores e next s
-by_way (JumpsBy by) stores e next s = by_stores stores e next s
-by_way (JumpsTo target) stores e next s = by_stores stores e next s
-by_way Repeats stores e next s = by_stores stores e next s
-by_way Calls stores e next s = by_stores stores e next s
-by_way (Halts end) stores e next s = Halt [] end
+abbrev pub by_effect : Result Effect Stop → Bool → ℕ → State → Move State
+by_effect (Err x) stores next s = Halt [] (end_of x)
+by_effect (Ok e) stores next s = by_stores stores e next s
 
 -- the loads before it
-abbrev pub by_loads : Bool → Bool → Effect → ℕ → State → Move State
-by_loads false stores e next s = Halt [] MemoryFault
-by_loads true stores e next s = by_way e.way stores e next s
+abbrev pub by_loads : Bool → Bool → Result Effect Stop → ℕ → State → Move State
+by_loads false stores e next s = Halt [] (end_of stop.MemoryFault)
+by_loads true stores e next s = by_effect e stores next s
 
 -- one step of an instruction of this length
 unfoldable pub step : Instr → ℕ → State → Move State

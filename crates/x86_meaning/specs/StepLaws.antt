@@ -1,5 +1,5 @@
 -- The laws of a step, and of the states before and after it.
-use Rattle.std.specs.Prelude.{◌≡◌, ◌≢◌, ℕ, ◌+◌, ◌<◌, true, List, [], ◌∷◌, map, length, Some, None}
+use Rattle.std.specs.Prelude.{◌≡◌, ◌≢◌, ℕ, ◌+◌, ◌<◌, true, List, [], ◌∷◌, map, length, Some, None, Ok}
 use Rattle.x86_values.specs.declared.byte.Byte.TheVariants.{Unspecified}
 use Rattle.x86_values.specs.declared.word.Word.{Word}
 use Rattle.x86_values.specs.Words.{word_of, known, IsWord}
@@ -19,7 +19,7 @@ use Rattle.x86_types.specs.Numbers.{number_of_reg}
 use Rattle.x86_code.specs.Code.{Code}
 use Rattle.x86_meaning.specs.Registers.{Registers, Processor, Naming, with_register}
 use Rattle.x86_meaning.specs.Operands.{Access}
-use Rattle.x86_meaning.specs.Effect.{accesses, effect}
+use Rattle.x86_meaning.specs.Effect.{Effect, accesses, effect}
 use Rattle.x86_meaning.specs.Step.{State, at_address, settled, request_of, after_call, step, next}
 use Rattle.x86_meaning.specs.Run.{start_of, IsStart}
 
@@ -81,4 +81,4 @@ pub record StepLaws : Type 0 where
   pub at_instruction : (code : Code) (s : State) (i : Instr) (len : ℕ) → code s.eip ≡ Some (i, len) → next code s ≡ step i len s
   pub at_none : (code : Code) (s : State) → code s.eip ≡ None → next code s ≡ Stand [] Outside
   -- what an effect stores are the stores among its accesses, in their order
-  pub stores_are_accesses : (v : Naming) (i : Instr) (n : ℕ) (cpu : Processor) (m : Memory) → map stored_range (effect v i n cpu m).stores ≡ store_ranges (accesses v i cpu.regs)
+  pub stores_are_accesses : (v : Naming) (i : Instr) (n : ℕ) (cpu : Processor) (m : Memory) (e : Effect) → effect v i n cpu m ≡ Ok e → map stored_range e.stores ≡ store_ranges (accesses v i cpu.regs)

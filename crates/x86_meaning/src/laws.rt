@@ -1,13 +1,18 @@
 // The laws of the definitions. Each function's clause is a record of laws.
+ghost use Rattle.x86_meaning.specs.AccessLaws.{AccessLaws};
 ghost use Rattle.x86_meaning.specs.CallRows.{WorkedCalls};
+ghost use Rattle.x86_meaning.specs.LessSpecified.{MonotoneLaws};
 ghost use Rattle.x86_meaning.specs.MoveRows.{WorkedMoves};
 ghost use Rattle.x86_meaning.specs.RunLaws.{ProgramLaws};
 ghost use Rattle.x86_meaning.specs.Step.{State};
 ghost use Rattle.x86_meaning.specs.StepLaws.{StateLaws, StepLaws};
 
-use memory::{call_laws, memory_laws};
+use memory::{call_laws, less_specified_memory_laws, memory_laws};
 use traces::{States, move_laws, run_laws};
-use x86_values::word_laws;
+use x86_values::{
+    condition_laws, division_laws, double_shift_laws, extension_laws, less_specified_laws,
+    logic_laws, product_laws, scan_laws, shift_laws, sum_laws, word_laws,
+};
 
 /// Names the states of the machine.
 pub struct Meaning;
@@ -28,6 +33,37 @@ pub fn state_laws()
     ensures { StateLaws }
 {
     word_laws();
+    less_specified_laws();
+    memory_laws();
+    less_specified_memory_laws();
+    monotone_laws();
+}
+
+/// Its clause is that the effect of an instruction and a step are monotone in what is specified: where a state with fewer
+/// known bytes and flags goes on, the other goes on to a state like that.
+pub fn monotone_laws()
+    ensures { MonotoneLaws }
+{
+    word_laws();
+    less_specified_laws();
+    sum_laws();
+    logic_laws();
+    shift_laws();
+    double_shift_laws();
+    product_laws();
+    division_laws();
+    scan_laws();
+    extension_laws();
+    condition_laws();
+    less_specified_memory_laws();
+    call_laws();
+}
+
+/// Its clause is what a step looks at: its effect looks at memory in the loads alone, and over two memories that differ only
+/// where it makes no access it comes to the same.
+pub fn access_laws()
+    ensures { AccessLaws }
+{
     memory_laws();
     call_laws();
 }

@@ -1,6 +1,6 @@
 use Rattle.std.proofs.Common.{◌≡◌, ◌<◌, ◌^◌, max, map, drop}
 use Rattle.elf_image.specs.Pages.{end_page}
-use Rattle.elf_image.specs.Refusals.{greatest}
+use Rattle.image.specs.Rooms.{greatest}
 use Rattle.elf_image.proofs.extent.greatest_end.Given as goal
 
 abbrev pub invariant-loop-h : goal.invariant-loop-h

@@ -1,6 +1,6 @@
 use Rattle.std.proofs.Common.{◌≡◌, ◌∷◌, map, drop}
 use Rattle.elf_image.specs.Pages.{first_page}
-use Rattle.elf_image.specs.Refusals.{least}
+use Rattle.image.specs.Rooms.{least}
 use Rattle.elf_image.proofs.extent.least_start.Given as goal
 
 abbrev pub invariant-loop-h : goal.invariant-loop-h

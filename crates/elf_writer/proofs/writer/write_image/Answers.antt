@@ -1,5 +1,5 @@
-use Rattle.std.proofs.Common.{◌≡◌, length, ap, ◌∙◌, arith}
-use Rattle.elf_image.specs.declared.refusal.Room.TheVariants.{Any}
+use Rattle.std.proofs.Common.{◌≡◌, ◌+◌, ◌*◌, length, ap, ◌∙◌, arith}
+use Rattle.image.specs.declared.room.Room.TheVariants.{Any}
 use Rattle.elf_image.specs.Image.{image_of}
 use Rattle.elf_writer.specs.Written.{data_of}
 use Rattle.elf_writer.proofs.Accepted.{data_is_small, written_is_accepted}
@@ -17,8 +17,8 @@ overflow_add-start c =
     let len : c.data_len.result ≡ length (data_of c.args.segments.now) = c.data_len.ensures ∙ ap (λ ss. length (data_of ss)) c.as_slice-segments.ensures in
     omega (arith, few, small, same, len)
 
-pub push_table-requires : goal.push_table-requires
-push_table-requires c =
+pub push_segment_headers-requires : goal.push_segment_headers-requires
+push_segment_headers-requires c =
     let few = c.requires.wanted.few in
     let small = data_is_small c.args.segments.now c.args.entry c.requires.wanted in
     let same : length c.as_slice-segments.result.now ≡ length c.args.segments.now = ap length c.as_slice-segments.ensures in
@@ -28,9 +28,9 @@ push_table-requires c =
 pub returns-clause-exact : goal.returns-clause-exact
 returns-clause-exact c =
     let h = c.next_multiple_of-start.ensures in
-    pushed_file c.args.segments.now c.as_slice-segments.result.now c.args.entry c.next_multiple_of-start.result _ _ _ _ _ c.as_slice-segments.ensures
-    (start_is (length c.as_slice-segments.result.now) c.next_multiple_of-start.result h.lower_bound h.upper_bound h.multiple)
-    c.in_ok-out.ensures.items c.in_ok-push_elf_header.ensures c.in_ok-push_table.ensures c.in_ok-push_zeros.ensures c.in_ok-push_data.ensures
+    pushed_file c.args.segments.now c.as_slice-segments.result.now c.args.entry c.header_count-headers.result c.next_multiple_of-start.result _ _ _ _ _ _ c.as_slice-segments.ensures
+    c.header_count-headers.ensures.count (start_is (52 + 32 * c.header_count-headers.result) c.next_multiple_of-start.result h.lower_bound h.upper_bound h.multiple)
+    c.in_ok-out.ensures.items c.in_ok-push_elf_header.ensures c.in_ok-push_segment_headers.ensures c.in_ok-push_stack_header.ensures c.in_ok-push_zeros.ensures c.in_ok-push_data.ensures
 
 pub returns-clause-again : goal.returns-clause-again
 returns-clause-again c =

@@ -1,5 +1,6 @@
 use Rattle.memory.proofs.Memories as m
 use Rattle.memory.proofs.Bytes as b
+use Rattle.memory.proofs.Ranges as r
 use Rattle.memory.proofs.laws.memory_laws.Goals as goal
 
 pub returns : goal.returns
@@ -24,4 +25,18 @@ returns c = record {
   put_all_has_bytes = b.put_all_has_bytes;
   forget_has_bytes = b.forget_has_bytes;
   loads_bytes = b.loads_bytes;
+  bytes_elsewhere = r.bytes_elsewhere;
+  allows_after = r.allows_after;
+  apart_in_order = r.apart_in_order;
+  apart_symmetric = r.apart_symmetric;
+  within_in_order = r.within_in_order;
+  same_outside_put = r.same_outside_put;
+  same_outside_put_within = r.same_outside_put_within;
+  same_outside_forget = r.same_outside_forget;
+  same_outside_symmetric = r.same_outside_symmetric;
+  allows_outside = r.allows_outside;
+  bytes_outside = r.bytes_outside;
+  forget_is_forgotten = r.forget_is_forgotten;
+  forget_as_invariant = r.forget_as_invariant;
+  store_exposes = r.store_exposes;
 }

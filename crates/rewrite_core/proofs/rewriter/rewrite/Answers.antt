@@ -1,6 +1,8 @@
 use Rattle.std.proofs.Common.{◌<◌, length, ap, ◌∙◌, sym, subst, arith, Ok}
 use Rattle.std.proofs.lemmas.List.Elements.{All-from_get_or}
-use Rattle.elf_image.specs.declared.refusal.Room.TheVariants.{Any, Source}
+use Rattle.image.specs.declared.image.Image.{Image}
+use Rattle.image.specs.declared.image.Segment.{Segment}
+use Rattle.image.specs.declared.room.Room.TheVariants.{Any, Source}
 use Rattle.elf_image.specs.Image.{image_of}
 use Rattle.rewrite_core.specs.Places.{IsLeftOut, IsLaid}
 use Rattle.rewrite_core.specs.Layout.{text_of, new_file, new_image}
@@ -21,7 +23,8 @@ lay-requires c =
     let is_plain_file = sym c.if-not-is_plain.ensures in
     let read = c.image_laws.ensures.plain_is_read file Source c.in-Ok.image c.in-Ok.ensures.is is_plain_file in
     let plain = plain_file file read.0 is_plain_file in
-    let text = c.as_slice-text.ensures ∙ text_is file c.in-Ok.image c.as_slice.result.now _ read.1 c.as_slice.ensures in
+    let segments = c.as_slice.ensures ∙ ap (λ (i : Image). i.segments) c.image.view_is in
+    let text = c.as_slice-text.ensures ∙ ap (λ (s : Segment). s.bytes) (c.segment.view_is ∙ c.index-as_slice-0.is) ∙ text_is file c.in-Ok.image c.as_slice.result.now _ read.1 segments in
     ap length text ∙ plain.whole
 
 pub returns-in_default : goal.returns-in_default
@@ -29,7 +32,8 @@ returns-in_default c =
     let file = c.args.bytes.now in
     let is_plain_file = sym c.if-not-is_plain.ensures in
     let read = c.image_laws.ensures.plain_is_read file Source c.in-Ok.image c.in-Ok.ensures.is is_plain_file in
-    let text = c.as_slice-text.ensures ∙ text_is file c.in-Ok.image c.as_slice.result.now _ read.1 c.as_slice.ensures in
+    let segments = c.as_slice.ensures ∙ ap (λ (i : Image). i.segments) c.image.view_is in
+    let text = c.as_slice-text.ensures ∙ ap (λ (s : Segment). s.bytes) (c.segment.view_is ∙ c.index-as_slice-0.is) ∙ text_is file c.in-Ok.image c.as_slice.result.now _ read.1 segments in
     let left_out : IsLeftOut c.as_slice-text.result.now = rw c.in_default.is at c.in_ok-code.ensures.laid in
     let bytes = All-from_get_or (λ b. b < 256) file 0 (λ i h. omega (arith, c.type_inv.bytes i)) in
     left_out_refuses c.front_laws.ensures.spelling c.front_laws.ensures.equations file c.in-Ok.image bytes c.in-Ok.ensures.is (plain_file file read.0 is_plain_file) (subst IsLeftOut text left_out)
@@ -40,7 +44,8 @@ write_file-requires-clause-page c =
     let is_plain_file = sym c.if-not-is_plain.ensures in
     let read = c.image_laws.ensures.plain_is_read file Source c.in-Ok.image c.in-Ok.ensures.is is_plain_file in
     let plain = plain_file file read.0 is_plain_file in
-    let text = c.as_slice-text.ensures ∙ text_is file c.in-Ok.image c.as_slice.result.now _ read.1 c.as_slice.ensures in
+    let segments = c.as_slice.ensures ∙ ap (λ (i : Image). i.segments) c.image.view_is in
+    let text = c.as_slice-text.ensures ∙ ap (λ (s : Segment). s.bytes) (c.segment.view_is ∙ c.index-as_slice-0.is) ∙ text_is file c.in-Ok.image c.as_slice.result.now _ read.1 segments in
     ap length text ∙ plain.whole
 
 pub write_file-requires-clause-some : goal.write_file-requires-clause-some
@@ -59,7 +64,8 @@ returns c =
     let is_plain_file = sym c.if-not-is_plain.ensures in
     let read = c.image_laws.ensures.plain_is_read file Source c.in-Ok.image c.in-Ok.ensures.is is_plain_file in
     let plain = plain_file file read.0 is_plain_file in
-    let text = c.as_slice-text.ensures ∙ text_is file c.in-Ok.image c.as_slice.result.now _ read.1 c.as_slice.ensures in
+    let segments = c.as_slice.ensures ∙ ap (λ (i : Image). i.segments) c.image.view_is in
+    let text = c.as_slice-text.ensures ∙ ap (λ (s : Segment). s.bytes) (c.segment.view_is ∙ c.index-as_slice-0.is) ∙ text_is file c.in-Ok.image c.as_slice.result.now _ read.1 segments in
     let code = c.in-Some.code.items in
     let found : IsLaid c.as_slice-text.result.now code = rw c.in-Some.is at c.in_ok-code.ensures.laid in
     let laid : IsLaid (text_of file) code = subst (λ t. IsLaid t code) text found in

@@ -8,5 +8,5 @@ returns c = record {
   step_forgets = states.step_forgets c.memory_laws.ensures;
   step_keeps_kinds = states.step_keeps_kinds c.memory_laws.ensures;
   start_is_of_bytes = bytes.start_is_of_bytes c.word_laws.ensures c.memory_laws.ensures;
-  step_keeps_bytes = bytes.step_keeps_bytes c.word_laws.ensures c.memory_laws.ensures c.call_laws.ensures;
+  step_keeps_bytes = bytes.step_keeps_bytes c.less_specified_laws.ensures c.less_specified_memory_laws.ensures c.monotone_laws.ensures;
 }
