@@ -1,8 +1,11 @@
 -- What each call does to what a host tells.
-use Rattle.std.specs.Prelude.{◌≡◌, ◌≢◌, ℕ, ◌+◌, min, Bool, true, false, cond, List, [], ◌∷◌, ◌++◌, take, Option, Some, None, Result, Ok, Err, Vec}
+use Rattle.std.specs.Prelude.{◌≡◌, ◌≢◌, ℕ, ◌+◌, ◌≤◌, min, Bool, true, false, cond, List, [], ◌∷◌, ◌++◌, length, take, drop, Option, Some, None, Result, Ok, Err, Vec}
 use Rattle.std.specs.Option.{option_map}
 use Rattle.std.specs.FinMap.{get, insert}
 use Rattle.std.specs.declared.alloc.Global.{Global}
+use Rattle.std.specs.declared.alloc.AllocError.{AllocError}
+use Rattle.outside.specs.declared.answer.Answer.{Answer}
+use Rattle.outside.specs.declared.answer.Answer.TheVariants.{Take, Fail}
 use Rattle.sw_host.specs.Told.{Told, last_count}
 use Rattle.sw_host.specs.declared.host.HostFault.{HostFault}
 use Rattle.sw_host.specs.declared.host.HostFault.TheVariants.{Failed, Memory}
@@ -52,3 +55,34 @@ abbrev pub Lines : List ℕ → Result (Unit {0}) HostFault → Told → Told �
 Lines text (Ok _) a b = (b ≡ with_line (called a) text) × (fails (called a) ≡ false)
 Lines text (Err Failed) a b = (b ≡ called a) × (fails (called a) ≡ true)
 Lines text (Err Memory) a b = b ≡ called a
+
+-- An answer to a call that is for n bytes at most: so many bytes or fewer, or an error number of Linux.
+abbrev pub IsAnswerFor : ℕ → Answer → Type 0
+IsAnswerFor n (Take k) = k ≤ n
+IsAnswerFor n (Fail e) = (1 ≤ e) × (e ≤ 4095)
+
+-- The host with one more answer, after the others. Nothing else changes.
+unfoldable pub with_answer : Told → Answer → Told
+with_answer a answer = record a { given = a.given ++ answer ∷ [] }
+
+-- The host with that answer, which gave the first k bytes of its input. Nothing else changes.
+unfoldable pub with_taken : Told → ℕ → Told
+with_taken a k = record a { given = a.given ++ Take k ∷ []; left = drop k a.left }
+
+-- What a take does, by the bytes of the buffer before and after and by its answer. After Take the front of the buffer is the
+-- front of the input that was left. Otherwise the buffer and the input stay. Memory may be wanting at any take.
+abbrev pub Takes : List ℕ → List ℕ → Result Answer AllocError → Told → Told → Type 0
+Takes before now (Ok (Take k)) a b = (k ≤ length before) × (k ≤ length a.left) × (now ≡ take k a.left ++ drop k before) × (b ≡ with_taken (called a) k)
+Takes before now (Ok (Fail e)) a b = (now ≡ before) × (b ≡ with_answer (called a) (Fail e))
+Takes before now (Err _) a b = (now ≡ before) × (b ≡ called a)
+
+-- The host with one more answer and one more write, each after the others. Nothing else changes.
+unfoldable pub with_moved : Told → Answer → ℕ → List ℕ → Told
+with_moved a answer fd bytes = record a { given = a.given ++ answer ∷ []; moved = a.moved ++ (fd, bytes) ∷ [] }
+
+-- What a put of these bytes does, by its answer. After Take the front of the bytes was written, and after Fail none of them.
+-- Memory may be wanting at any put, and then there was no write.
+abbrev pub Puts : ℕ → List ℕ → Result Answer AllocError → Told → Told → Type 0
+Puts fd bytes (Ok (Take k)) a b = (k ≤ length bytes) × (b ≡ with_moved (called a) (Take k) fd (take k bytes))
+Puts fd bytes (Ok (Fail e)) a b = b ≡ with_moved (called a) (Fail e) fd []
+Puts fd bytes (Err _) a b = b ≡ called a

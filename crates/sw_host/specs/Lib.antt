@@ -1,4 +1,6 @@
 pub mod Told
 pub mod Calls
+pub mod Moved
+pub mod Scripts
 pub mod Memory
 pub mod Laws

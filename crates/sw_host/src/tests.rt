@@ -1,5 +1,6 @@
 // What no clause says: that the calls succeed where memory is left, and the values that are meant.
 use crate::{Host, HostFault, MemoryHost};
+use outside::Answer;
 use std::alloc::Global;
 use std::test::Fail;
 
@@ -57,6 +58,56 @@ fn fails_by_number(rt: HostRuntime) -> Result<(), Fail> {
         );
         assert_eq!(rt; host.file("in"), Some(file), "call {number} fails");
         assert_eq!(rt; host.lines().len(), lines, "call {number} fails");
+    }
+    Ok(())
+}
+
+#[test]
+fn takes_input(rt: HostRuntime) -> Result<(), Fail> {
+    let mut host = MemoryHost::new(rt.alloc());
+    host.set_input(b"abcdefghij")?;
+    let mut buf = [b'.'; 4];
+    assert_eq!(rt; host.take(&mut buf)?, Answer::Take(4));
+    assert_eq!(rt; buf.as_slice(), b"abcd".as_slice());
+    host.add_answer(Answer::Take(1))?;
+    host.add_answer(Answer::Fail(4))?;
+    host.add_answer(Answer::Take(9))?;
+    assert_eq!(rt; host.take(&mut buf)?, Answer::Take(1));
+    assert_eq!(rt; buf.as_slice(), b"ebcd".as_slice());
+    host.fail_call(3)?;
+    assert_eq!(rt; host.take(&mut buf)?, Answer::Fail(5));
+    assert_eq!(rt; host.take(&mut buf)?, Answer::Fail(4));
+    assert_eq!(rt; buf.as_slice(), b"ebcd".as_slice());
+    assert_eq!(rt; host.take(&mut buf)?, Answer::Take(4));
+    assert_eq!(rt; buf.as_slice(), b"fghi".as_slice());
+    assert_eq!(rt; host.take(&mut buf)?, Answer::Take(1));
+    assert_eq!(rt; buf.as_slice(), b"jghi".as_slice());
+    assert_eq!(rt; host.take(&mut buf)?, Answer::Take(0));
+    Ok(())
+}
+
+#[test]
+fn puts_bytes(rt: HostRuntime) -> Result<(), Fail> {
+    let mut host = MemoryHost::new(rt.alloc());
+    assert_eq!(rt; host.put(1, b"abc")?, Answer::Take(3));
+    host.add_answer(Answer::Take(2))?;
+    host.add_answer(Answer::Fail(4))?;
+    host.add_answer(Answer::Take(9))?;
+    assert_eq!(rt; host.put(2, b"abc")?, Answer::Take(2));
+    host.fail_call(3)?;
+    assert_eq!(rt; host.put(1, b"abc")?, Answer::Fail(5));
+    assert_eq!(rt; host.put(1, b"abc")?, Answer::Fail(4));
+    assert_eq!(rt; host.put(1, b"abc")?, Answer::Take(3));
+    assert_eq!(rt; (host.moved().len(), host.moved().is_empty()), (5, false));
+    let rows = [
+        (1, b"abc".as_slice()),
+        (2, b"ab".as_slice()),
+        (1, b"".as_slice()),
+        (1, b"".as_slice()),
+        (1, b"abc".as_slice()),
+    ];
+    for (moved, want) in host.moved().as_slice().iter().zip(rows) {
+        assert_eq!(rt; (moved.fd, moved.bytes.as_slice()), want);
     }
     Ok(())
 }
