@@ -1,5 +1,5 @@
 -- Places that are mapped and kept.
-use Rattle.std.proofs.Common.{◌≡◌, ℕ, zero, suc, ◌+◌, ◌<◌, ◌≤◌, ◌&&◌, Bool, true, false, List, length, refl, sym, ap, ◌∙◌, subst, add-one, arith, Result, Ok, Err, Option, Some, None}
+use Rattle.std.proofs.Common.{◌≡◌, ℕ, zero, suc, ◌+◌, ◌<◌, ◌≤◌, ◌&&◌, Bool, true, false, List, length, refl, sym, ap, ◌∙◌, subst, add-zero, arith, Result, Ok, Err, Option, Some, None}
 use Rattle.mem_pages.specs.declared.pages.Pages.{Pages}
 use Rattle.mem_pages.specs.declared.fault.PageFault.{PageFault}
 use Rattle.mem_pages.specs.declared.fault.PageFault.TheVariants as fault
@@ -23,7 +23,7 @@ both a b h k = rw (h, k) refl
 pub each_allowed : (kind : AccessKind) (m : Memory) (at n k : ℕ) → allows_all kind m at n ≡ true → k < n → allows kind (m (wrapped (at + k))) ≡ true
 unfolding allows_all
 each_allowed kind m at zero k h l = absurd (omega arith)
-each_allowed kind m at (suc n) zero h l = both_left (allows kind (m (wrapped at))) (allows_all kind m (at + 1) n) h
+each_allowed kind m at (suc n) zero h l = rw (add-zero at) (both_left (allows kind (m (wrapped at))) (allows_all kind m (at + 1) n) h)
 each_allowed kind m at (suc n) (suc k) h l =
     let same : at + suc k ≡ at + 1 + k = omega arith in
     rw same (each_allowed kind m (at + 1) n k (both_right (allows kind (m (wrapped at))) (allows_all kind m (at + 1) n) h) (omega arith))
@@ -32,7 +32,7 @@ pub all_allowed : (kind : AccessKind) (m : Memory) (at n : ℕ) → ((k : ℕ) �
 unfolding allows_all
 all_allowed kind m at zero h = refl
 all_allowed kind m at (suc n) h =
-    both (allows kind (m (wrapped at))) (allows_all kind m (at + 1) n) (h 0 (omega arith)) (all_allowed kind m (at + 1) n (λ k l.
+    both (allows kind (m (wrapped at))) (allows_all kind m (at + 1) n) (rw (add-zero at) at (h 0 (omega arith))) (all_allowed kind m (at + 1) n (λ k l.
         let same : at + 1 + k ≡ at + suc k = omega arith in
         rw same (h (suc k) (omega arith))))
 

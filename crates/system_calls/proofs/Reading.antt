@@ -1,5 +1,6 @@
 -- What the calls of read and write come to, by what the host did.
-use Rattle.std.proofs.Common.{◌≡◌, ℕ, ◌+◌, ◌≤◌, List, [], ◌∷◌, ◌++◌, length, map, take, drop, min, refl, sym, ap, ◌∙◌, subst, rules, arith, Result, Ok, Err, Option, Some, None}
+use Rattle.std.proofs.Common.{◌≡◌, ℕ, ◌+◌, ◌^◌, ◌≤◌, ◌==◌, ◌&&◌, Bool, true, false, cond, leb, List, [], ◌∷◌, ◌++◌, length, map, take, drop, min, refl, sym, ap, ◌∙◌, subst, rules, arith, Result, Ok, Err, Option, Some, None}
+use Rattle.std.proofs.lemmas.Bool.{leb-true}
 use Rattle.std.proofs.lemmas.List.{length-take-le, take-append-le, take_all}
 use Rattle.std.specs.declared.alloc.AllocError.{AllocError}
 use Rattle.outside.specs.declared.answer.Answer.{Answer}
@@ -7,12 +8,15 @@ use Rattle.outside.specs.declared.answer.Answer.TheVariants.{Take, Fail}
 use Rattle.outside.specs.Environment.{Environment, next_answer}
 use Rattle.traces.specs.Trace.{Label, Took, Made, Read, Write, End, Unspecified}
 use Rattle.x86_values.specs.declared.byte.Byte.TheVariants.{Known}
-use Rattle.memory.specs.Memory.{Memory, put_all}
-use Rattle.memory.specs.SystemCall.{Called, Ends, Gives, Plan, Refused, Stops, Asks, error, read_by, write_by, reads, writes, read_call, write_call, read_plan, write_plan}
+use Rattle.outside.specs.Environment.{cap}
+use Rattle.memory.specs.Memory.{Memory, Store, allows_all, put_all}
+use Rattle.memory.specs.SystemCall.{Called, Ends, Gives, Plan, Refused, Stops, Asks, error, read_by, write_by, reads, writes, read_call, write_call, read_plan, write_plan, passes, EBADF, EFAULT}
 use Rattle.sw_host.specs.Told.{Told}
 use Rattle.sw_host.specs.Calls.{called, with_answer, with_taken, with_moved, Takes, Puts}
 use Rattle.system_calls.specs.Given.{HasGiven, environment}
-use Rattle.system_calls.specs.Making.{EndsRun, GivesResult, WantsMemory}
+use Rattle.system_calls.specs.declared.outcome.CallOutcome.{CallOutcome}
+use Rattle.system_calls.specs.Making.{EndsRun, GivesResult, WantsMemory, Makes}
+use Rattle.system_calls.proofs.Kept.{each_allowed, all_allowed}
 use Rattle.system_calls.proofs.Giving.{gives_nothing, gives_no_read, gives_no_write, gives_no_answer, gives_taken, gives_no_input, gives_moved}
 
 -- ---- whatever the call
@@ -40,16 +44,37 @@ read_refused fd at count result m a h = record {
   host = gives_no_read fd result a;
 }
 
-pub read_asked : (fd at count room : ℕ) (m n : Memory) (a b : Told) (result : ℕ) → read_plan m fd at count ≡ Asks room → GivesResult (λ left. read_by (next_answer left.answers) fd at room left) result m n a b → GivesResult (λ left. read_call fd at count m left) result m n a b
+-- what a read comes to that asks for so many bytes
+pub asked_result : (fd at count room : ℕ) (m n : Memory) (a b : Told) (result : Result CallOutcome AllocError) → read_plan m fd at count ≡ Asks room → Makes (λ left. read_by (next_answer left.answers) fd at room left) result m n a b → Makes (λ left. read_call fd at count m left) result m n a b
 unfolding read_call
-read_asked fd at count room m n a b result h g = record {
-  answers = g.answers;
-  labels = g.labels;
-  stores = g.stores;
-  gives = λ rest. ap (λ p. reads p fd at (environment a (g.answers ++ rest))) h ∙ g.gives rest;
-  memory = g.memory;
-  host = g.host;
-}
+asked_result fd at count room m n a b result h made =
+    let same : (λ (left : Environment). read_by (next_answer left.answers) fd at room left) ≡ (λ left. read_call fd at count m left) = λ i left. ap (λ p. reads p fd at left) (sym h) i in
+    let P : (Environment → Called) → Type 0 = λ call. Makes call result m n a b in
+    subst P same made
+
+both_left : (a b : Bool) → a && b ≡ true → a ≡ true
+both_left true b h = refl
+both_left false b h = h
+
+both_right : (a b : Bool) → a && b ≡ true → b ≡ true
+both_right true b h = h
+both_right false b h = cc
+
+asks_if : (x y z : Bool) (k r s t room : ℕ) → cond x (cond y (Refused r) (cond z (Asks k) (Refused s))) (Refused t) ≡ Asks room → (z ≡ true) × (k ≡ room)
+asks_if true true z k r s t room h = cc
+asks_if true false true k r s t room h = (refl, cc)
+asks_if true false false k r s t room h = cc
+asks_if false y z k r s t room h = cc
+
+-- a read asks for bytes that it can store
+pub asks_for_room : (fd at count room : ℕ) (m : Memory) → read_plan m fd at count ≡ Asks room → (allows_all Store m at room ≡ true) × (at + room ≤ 2 ^ 32)
+asks_for_room fd at count room m h =
+    let asks = asks_if (fd == 0) (count == 0) (passes Store m at count) (min count cap) 0 (error EFAULT) (error EBADF) room h in
+    let within : at + count ≤ 4294967296 = leb-true _ _ (both_left _ _ asks.0) in
+    let least : min count cap ≡ room = asks.1 in
+    let few : room ≤ count = grind arith in
+    let allowed : allows_all Store m at count ≡ true = both_right _ _ asks.0 in
+    (all_allowed Store m at room (λ k l. each_allowed Store m at count k allowed (omega arith)), omega arith)
 
 -- the host gave the first k bytes of its input, and they were stored
 pub read_taken : (fd at room k : ℕ) (before now : List ℕ) (m n : Memory) (a b : Told) → length before ≡ room → n ≡ put_all at (map Known (take k now)) m → Takes before now (Ok (Take k)) a b → GivesResult (λ left. read_by (next_answer left.answers) fd at room left) k m n a b

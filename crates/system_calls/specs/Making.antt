@@ -9,8 +9,8 @@ use Rattle.memory.specs.SystemCall.{Request, Called, Ends, Gives}
 use Rattle.mem_pages.specs.Ends.{end_of}
 use Rattle.sw_host.specs.Told.{Told}
 use Rattle.system_calls.specs.declared.request.CallRequest.{CallRequest}
-use Rattle.system_calls.specs.declared.made.Made.{Made}
-use Rattle.system_calls.specs.declared.made.Made.TheVariants as made
+use Rattle.system_calls.specs.declared.outcome.CallOutcome.{CallOutcome}
+use Rattle.system_calls.specs.declared.outcome.CallOutcome.TheVariants as outcome
 use Rattle.system_calls.specs.Given.{environment, HasGiven}
 
 abbrev pub request_of : CallRequest → Request
@@ -43,7 +43,7 @@ EndsAs None call m n a b = ⊥
 EndsAs (Some end) call m n a b = EndsRun call end m n a b
 
 -- what making a call does that comes to this over each environment, by the answer
-abbrev pub Makes : (Environment → Called) → Result Made AllocError → Memory → Memory → Told → Told → Type 0
-Makes call (Ok (made.Ended end)) m n a b = EndsAs (end_of end) call m n a b
-Makes call (Ok (made.Returned result)) m n a b = GivesResult call result m n a b
+abbrev pub Makes : (Environment → Called) → Result CallOutcome AllocError → Memory → Memory → Told → Told → Type 0
+Makes call (Ok (outcome.Ended end)) m n a b = EndsAs (end_of end) call m n a b
+Makes call (Ok (outcome.Returned result)) m n a b = GivesResult call result m n a b
 Makes call (Err _) m n a b = WantsMemory m n a b

@@ -1,14 +1,26 @@
--- What a read or a write comes to before the host is asked, as the program has it.
+-- Which call a request asks for, and what a read or a write comes to before the host is asked, as the program has them.
 use Rattle.std.specs.Prelude.{◌≡◌, ℕ, ◌+◌, ◌<◌, true, List}
-use Rattle.memory.specs.Memory.{Load, allows, wrapped}
+use Rattle.outside.specs.Environment.{Environment}
+use Rattle.traces.specs.Trace as trace
+use Rattle.memory.specs.Memory.{Memory, Load, allows, wrapped}
 use Rattle.memory.specs.SystemCall as spec
-use Rattle.memory.specs.SystemCall.{Plan}
+use Rattle.memory.specs.SystemCall.{Plan, Called, Ends, read_call, write_call}
 use Rattle.mem_pages.specs.declared.pages.Pages.{Pages}
 use Rattle.mem_pages.specs.Contents.{memory_in, is_kept}
+use Rattle.system_calls.specs.declared.asked.Asked.{Asked}
+use Rattle.system_calls.specs.declared.asked.Asked.TheVariants as asked
 use Rattle.system_calls.specs.declared.read.ReadPlan.{ReadPlan}
 use Rattle.system_calls.specs.declared.read.ReadPlan.TheVariants as read
 use Rattle.system_calls.specs.declared.write.WritePlan.{WritePlan}
 use Rattle.system_calls.specs.declared.write.WritePlan.TheVariants as write
+
+-- what the call comes to that is asked for
+abbrev pub call_asked : Asked → Memory → Environment → Called
+call_asked (asked.Exit status) m left = Ends (trace.Exited status)
+call_asked (asked.OtherCall number) m left = Ends (trace.OtherCall number)
+call_asked asked.Unspecified m left = Ends trace.Unspecified
+call_asked (asked.Read fd at count) m left = read_call fd at count m left
+call_asked (asked.Write fd at count) m left = write_call fd at count m left
 
 abbrev pub read_plan_of : ReadPlan → Plan ℕ
 read_plan_of (read.Refused result) = spec.Refused result

@@ -10,7 +10,7 @@ ghost use Rattle.sw_host.specs.Told.{Tells};
 ghost use Rattle.system_calls.specs.Making.{Makes};
 ghost use Rattle.system_calls.specs.Plans.{read_plan_of, AreKept};
 
-use crate::Made;
+use crate::CallOutcome;
 use crate::result::{CAP, EBADF, EFAULT, error};
 use mem_pages::Pages;
 use outside::Answer;
@@ -48,14 +48,14 @@ pub(crate) fn read<H: Host>(
     count: u32,
     pages: &mut Pages,
     host: &mut H,
-) -> Result<Made, AllocError>
+) -> Result<CallOutcome, AllocError>
     ensures makes { Tells (H.told host.old) (H.told host.new)
         (Makes (λ left. spec.read_call fd at count (memory_in pages.old) left) result (memory_in pages.old) (memory_in pages.new)) }
     ensures keeps { KeepsPages pages.old pages.new }
     ensures faults { H.faults host.old ≤ H.faults host.new }
 {
     match read_plan(fd, at, count, pages) {
-        ReadPlan::Refused(result) => Ok(Made::Returned(result)),
+        ReadPlan::Refused(result) => Ok(CallOutcome::Returned(result)),
         ReadPlan::Asks(room) => ask(alloc, fd, at, room, pages, host),
     }
 }
@@ -68,7 +68,7 @@ fn ask<H: Host>(
     room: u32,
     pages: &mut Pages,
     host: &mut H,
-) -> Result<Made, AllocError>
+) -> Result<CallOutcome, AllocError>
     requires within { at + room ≤ 2 ^ 32 }
     requires allowed { allows_all Store (memory_in pages.old) at room ≡ true }
     ensures makes { Tells (H.told host.old) (H.told host.new)
@@ -81,9 +81,9 @@ fn ask<H: Host>(
     match host.take(buf.as_mut_slice())? {
         Answer::Take(taken) => {
             fill_kept(at, &buf.as_slice()[..taken as usize], pages);
-            Ok(Made::Returned(taken))
+            Ok(CallOutcome::Returned(taken))
         }
-        Answer::Fail(number) => Ok(Made::Returned(error(number))),
+        Answer::Fail(number) => Ok(CallOutcome::Returned(error(number))),
     }
 }
 

@@ -7,7 +7,7 @@ ghost use Rattle.sw_host.specs.Told.{Tells};
 ghost use Rattle.system_calls.specs.Making.{Makes};
 ghost use Rattle.system_calls.specs.Plans.{write_plan_of};
 
-use crate::Made;
+use crate::CallOutcome;
 use crate::result::{CAP, EBADF, EFAULT, error};
 use mem_pages::{Pages, RunEnd};
 use outside::Answer;
@@ -51,17 +51,17 @@ pub(crate) fn write<H: Host>(
     count: u32,
     pages: &Pages,
     host: &mut H,
-) -> Result<Made, AllocError>
+) -> Result<CallOutcome, AllocError>
     ensures makes { Tells (H.told host.old) (H.told host.new)
         (Makes (λ left. spec.write_call fd at count (memory_in pages.now) left) result (memory_in pages.now) (memory_in pages.now)) }
     ensures faults { H.faults host.old ≤ H.faults host.new }
 {
     match write_plan(alloc, fd, at, count, pages)? {
-        WritePlan::Refused(result) => Ok(Made::Returned(result)),
-        WritePlan::Stops => Ok(Made::Ended(RunEnd::Unspecified)),
+        WritePlan::Refused(result) => Ok(CallOutcome::Returned(result)),
+        WritePlan::Stops => Ok(CallOutcome::Ended(RunEnd::Unspecified)),
         WritePlan::Asks(bytes) => match host.put(fd, bytes.as_slice())? {
-            Answer::Take(moved) => Ok(Made::Returned(moved)),
-            Answer::Fail(number) => Ok(Made::Returned(error(number))),
+            Answer::Take(moved) => Ok(CallOutcome::Returned(moved)),
+            Answer::Fail(number) => Ok(CallOutcome::Returned(error(number))),
         },
     }
 }
