@@ -1,3 +1,6 @@
 pub mod Regions
+pub mod Page
+pub mod Directory
+pub mod Lending
 pub mod Contents
 pub mod Accesses
