@@ -1,1 +1,7 @@
-pub mod Stub
+pub mod Clearing
+pub mod PageSteps
+pub mod Tables
+pub mod Lifting
+pub mod Parts
+pub mod Shown
+pub mod Runs

@@ -33,6 +33,14 @@ pub record IsNotAllKept (at count : ℕ) (p : Pages) : Type 0 where
   pub within : offset < count
   pub not_kept : is_kept p (wrapped (at + offset)) ≡ false
 
+-- each address of a range is kept; addresses wrap at 2^32
+pub record IsAllKept (at count : ℕ) (p : Pages) : Type 0 where
+  pub kept : (k : ℕ) → k < count → is_kept p (wrapped (at + k)) ≡ true
+
+-- each mapped address of a range is kept afterwards
+abbrev pub IsKept : ℕ → ℕ → Pages → Pages → Type 0
+IsKept at count p q = (k : ℕ) → k < count → allows Load (memory_in p (wrapped (at + k))) ≡ true → is_kept q (wrapped (at + k)) ≡ true
+
 -- bytes were stored from an address on, past the end of the addresses at 0
 pub record IsStored (at : ℕ) (bytes : List Byte) (p q : Pages) : Type 0 where
   pub allowed : allows_all Store (memory_in p) at (length bytes) ≡ true

@@ -1,12 +1,18 @@
 -- What pages hold.
-use Rattle.std.specs.Prelude.{ℕ, Bool, false, None}
-use Rattle.memory.specs.Memory.{Memory}
+use Rattle.std.specs.Prelude.{◌≡◌, ℕ, ◌<◌, Bool, true, false}
+use Rattle.memory.specs.Memory.{Memory, forget_below}
 use Rattle.mem_pages.specs.declared.pages.Pages.{Pages}
+use Rattle.mem_pages.specs.Page.{IsOffStack}
+use Rattle.mem_pages.specs.Directory.{contents, keeps}
 
--- the memory that the pages are
+-- the memory that the pages are: that of the directory, of which the stack is forgotten below `lowest`
 unfoldable pub memory_in : Pages → Memory
-memory_in p a = None
+memory_in p = forget_below p.lowest (contents p.directory)
 
 -- whether the page of an address is kept, so that no access of it takes memory
 unfoldable pub is_kept : Pages → ℕ → Bool
-is_kept p a = false
+is_kept p a = keeps p.directory a
+
+-- a place of the stack isn't below `lowest`
+pub record IsReady (at : ℕ) (p : Pages) : Type 0 where
+  pub off : at < p.lowest → IsOffStack at (contents p.directory)

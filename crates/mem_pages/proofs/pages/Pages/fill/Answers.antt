@@ -1,9 +1,6 @@
-use Rattle.std.proofs.Common.{◌≡◌, length, arith}
-use Rattle.std.proofs.lemmas.Grind.{common_steps}
+use Rattle.std.proofs.Common.{arith, sym, ◌∙◌, length}
 use Rattle.mem_pages.proofs.pages.Pages.fill.Goals as goal
-use Rattle.mem_pages.proofs.Stub.{fills_nothing}
+use Rattle.mem_pages.proofs.Runs.{kept_range}
 
-pub returns-then-is_empty-clause-fills : goal.returns-then-is_empty-clause-fills
-returns-then-is_empty-clause-fills c =
-    let e : length c.args.bytes.now ≡ 0 = grind (arith, common_steps) in
-    fills_nothing c.args.self.now c.args.at c.args.bytes.now e
+pub put_known-requires-clause-kept : goal.put_known-requires-clause-kept
+put_known-requires-clause-kept c = kept_range c.keep_range.result c.args.at (length c.args.bytes.now) (length c.args.bytes.now) c.args.self.now c.keep_range.new.self (cc) (omega arith) (sym c.allows.ensures ∙ c.if-not-allows.false) c.keep_range.ensures.kept

@@ -1,0 +1,199 @@
+-- From the places of the directory to the memory, of which the stack is forgotten below an address.
+use Rattle.std.proofs.Common.{◌≡◌, ◌≢◌, ℕ, ◌+◌, ◌-◌, ◌/◌, ◌%◌, ◌<◌, ◌≤◌, ◌==◌, ◌&&◌, ◌||◌, Bool, true, false, cond, leb, ltb, Option, Some, None, Result, Ok, Err, arith, refl, sym, ◌∙◌, ap, inl, inr}
+use Rattle.std.specs.Option.{option_map}
+use Rattle.std.specs.Result.{OnOk, OnErr}
+use Rattle.std.proofs.lemmas.Bool.{cases_eq, cases_lt, cases_Bool, cond-true, cond-false, lt-ltb, le-ltb, ltb-true, eqb-true, ne_eqb, eq-eqb, false≢true}
+use Rattle.std.proofs.lemmas.Bool.Decides.{nat_tests}
+use Rattle.x86_values.specs.declared.byte.Byte.{Byte}
+use Rattle.x86_values.specs.declared.byte.Byte.TheVariants.{Known, Unspecified}
+use Rattle.memory.specs.Memory.{Place, Memory, AccessKind, Load, Store, allows, with_byte, put, forgotten, forget_below}
+use Rattle.mem_pages.specs.declared.directory.Directory.{Directory}
+use Rattle.mem_pages.specs.declared.pages.Pages.{Pages}
+use Rattle.mem_pages.specs.declared.fault.PageFault.{PageFault}
+use Rattle.mem_pages.specs.declared.fault.PageFault.TheVariants as fault
+use Rattle.mem_pages.specs.Regions.{unmapped, region_place, with_region, forget_between, is_unspecified, HasRoom}
+use Rattle.mem_pages.specs.Page.{shown, seen, IsOffStack, Judges}
+use Rattle.mem_pages.specs.Directory.{page_at, contents, keeps, KeepsPlaces, place_on}
+use Rattle.mem_pages.specs.Contents.{memory_in, is_kept, IsReady}
+use Rattle.mem_pages.specs.Accesses.{byte_read, KeepsPages, SameMemory, Writes}
+use Rattle.mem_pages.proofs.Parts.{forget_joined}
+
+pub at_place : (p : Pages) (a : ℕ) → memory_in p a ≡ shown (ltb a p.lowest) (contents p.directory a)
+unfolding memory_in forget_below
+at_place p a = refl
+
+pub nothing_in : (d : Directory) → ((n : ℕ) → page_at d n ≡ None) → memory_in (record { directory = d; lowest = 0 }) ≡ unmapped
+unfolding memory_in forget_below contents
+nothing_in d h = λ i a. (ap (λ o. shown (ltb a 0) (place_on o (a % 4096))) (h (a / 4096)) ∙ none (ltb a 0)) i
+  where
+    none : (t : Bool) → shown t None ≡ None
+    none true = refl
+    none false = refl
+
+-- ---- directories with the same places
+pub same_places : (p : Pages) (d : Directory) → ((a : ℕ) → contents d a ≡ contents p.directory a) → memory_in (record p { directory = d }) ≡ memory_in p
+unfolding memory_in forget_below
+same_places p d h = λ i a. ap (shown (ltb a p.lowest)) (h a) i
+
+pub keeps_pages : (p : Pages) (d : Directory) (low : ℕ) → KeepsPlaces p.directory d → KeepsPages p (record { directory = d; lowest = low })
+unfolding is_kept
+keeps_pages p d low h = record { kept = h.kept }
+
+pub same_memory : (p : Pages) → SameMemory p p
+same_memory p = record { memory = refl }
+
+pub keeps_itself : (p : Pages) → KeepsPages p p
+keeps_itself p = record { kept = λ a h. h }
+
+pub keeps_then : (p q r : Pages) → KeepsPages p q → KeepsPages q r → KeepsPages p r
+keeps_then p q r h k = record { kept = λ a x. k.kept a (h.kept a x) }
+
+-- ---- regions
+region_shown : (t u w : Bool) (b : Byte) (o : Option Place) → shown u (cond t (Some (region_place w b)) o) ≡ cond t (Some (region_place w b)) (shown u o)
+region_shown true true w (Known b) o = refl
+region_shown true true w Unspecified o = refl
+region_shown true false w b o = refl
+region_shown false u w b o = refl
+
+pub region_added : (p : Pages) (d e : Directory) (start end : ℕ) (w : Bool) (b : Byte) → ((a : ℕ) → contents d a ≡ contents p.directory a) → ((a : ℕ) → contents e a ≡ with_region start end w b (contents d) a) → memory_in (record p { directory = e }) ≡ with_region start end w b (memory_in p)
+unfolding memory_in forget_below with_region
+region_added p d e start end w b same places = λ i a. (ap (shown (ltb a p.lowest)) (places a ∙ ap (cond (leb start a && ltb a end) (Some (region_place w b))) (same a)) ∙ region_shown (leb start a && ltb a end) (ltb a p.lowest) w b (contents p.directory a)) i
+
+none_shown : (t : Bool) (o : Option Place) → shown t o ≡ None → o ≡ None
+none_shown true None h = refl
+none_shown true (Some p) h = cc
+none_shown false o h = h
+
+pub has_room : (p : Pages) (d : Directory) (start end : ℕ) → ((a : ℕ) → contents d a ≡ contents p.directory a) → HasRoom start end (memory_in p) → HasRoom start end (contents d)
+unfolding memory_in forget_below
+has_room p d start end same h = record { free = λ a b l m e. same a ∙ none_shown (ltb a p.lowest) _ (h.free a b l m e) }
+
+-- ---- the stack
+idempotent : (t u : Bool) (o : Option Place) → (u ≡ true → t ≡ true) → shown t o ≡ cond t (forgotten (shown u o)) (shown u o)
+idempotent true true None h = refl
+idempotent true true (Some p) h = ap (λ b. Some (record p { byte = b })) (twice p.on_stack p.byte)
+  where
+    twice : (s : Bool) (b : Byte) → cond s Unspecified b ≡ cond s Unspecified (cond s Unspecified b)
+    twice true b = refl
+    twice false b = refl
+idempotent true false o h = refl
+idempotent false true o h = absurd (false≢true (h refl))
+idempotent false false o h = refl
+
+pub forgets_below : (p : Pages) (end : ℕ) → p.lowest < end → memory_in (record p { lowest = end }) ≡ forget_below end (memory_in p)
+unfolding memory_in forget_below
+forgets_below p end l = λ i a. idempotent (ltb a end) (ltb a p.lowest) (contents p.directory a) (λ h. lt-ltb a end (omega (arith, ltb-true a p.lowest h))) i
+
+already : (t u : Bool) (o : Option Place) → (t ≡ true → u ≡ true) → shown u o ≡ cond t (forgotten (shown u o)) (shown u o)
+already true true o h = idempotent true true o (λ x. x)
+already true false o h = absurd (false≢true (h refl))
+already false u o h = refl
+
+pub forgotten_already : (p : Pages) (end : ℕ) → end ≤ p.lowest → memory_in p ≡ forget_below end (memory_in p)
+unfolding memory_in forget_below
+forgotten_already p end l = λ i a. already (ltb a end) (ltb a p.lowest) (contents p.directory a) (λ h. lt-ltb a p.lowest (omega (arith, ltb-true a end h))) i
+
+either_order : (t u : Bool) (o : Option Place) → shown u (cond t (forgotten o) o) ≡ cond t (forgotten (shown u o)) (shown u o)
+either_order true true o = refl
+either_order true false o = refl
+either_order false u o = refl
+
+pub forgets_between : (p : Pages) (d : Directory) (start end : ℕ) → ((a : ℕ) → contents d a ≡ forget_between start end (contents p.directory) a) → memory_in (record p { directory = d }) ≡ forget_between start end (memory_in p)
+unfolding memory_in forget_below forget_between
+forgets_between p d start end h = λ i a. (ap (shown (ltb a p.lowest)) (h a) ∙ either_order (leb start a && ltb a end) (ltb a p.lowest) (contents p.directory a)) i
+
+pub forgets_nothing : (p : Pages) (start end : ℕ) → end ≤ start → memory_in p ≡ forget_between start end (memory_in p)
+unfolding forget_between
+forgets_nothing p start end l = λ i a. sym (cond-false (leb start a && ltb a end) (forgotten (memory_in p a)) (memory_in p a) (no_range start end a l)) i
+  where
+    no_range : (start end a : ℕ) → end ≤ start → (leb start a && ltb a end) ≡ false
+    no_range start end a l = grind (arith, nat_tests)
+
+either_part : (a low high : ℕ) → low ≤ high → ltb a high ≡ (ltb a low || (leb low a && ltb a high))
+either_part a low high l = grind (arith, nat_tests)
+
+apart : (a low high : ℕ) → ltb a low ≡ true → (leb low a && ltb a high) ≡ false
+apart a low high h = grind (arith, nat_tests)
+
+pub lowered : (p : Pages) (d : Directory) (low : ℕ) → low ≤ p.lowest → ((a : ℕ) → contents d a ≡ forget_between low p.lowest (contents p.directory) a) → memory_in (record { directory = d; lowest = low }) ≡ memory_in p
+unfolding memory_in forget_below forget_between
+lowered p d low l h = λ i a. (ap (shown (ltb a low)) (h a) ∙ forget_joined (ltb a low) (leb low a && ltb a p.lowest) (contents p.directory a) (apart a low p.lowest) ∙ ap (λ t. shown t (contents p.directory a)) (sym (either_part a low p.lowest l))) i
+
+-- ---- one byte
+off_stack_same : (o : Option Place) → ((p : Place) → o ≡ Some p → p.on_stack ≡ false) → forgotten o ≡ o
+off_stack_same None h = refl
+off_stack_same (Some p) h = ap (λ s. Some (record p { byte = cond s Unspecified p.byte })) (h p refl)
+
+off_stack_with : (b : Byte) (o : Option Place) → ((p : Place) → o ≡ Some p → p.on_stack ≡ false) → forgotten (with_byte b o) ≡ with_byte b o
+off_stack_with b None h = refl
+off_stack_with b (Some p) h = ap (λ s. Some (record p { byte = cond s Unspecified b })) (h p refl)
+
+put_shown : (t u : Bool) (b : Byte) (o : Option Place) → (t ≡ true → u ≡ true → (p : Place) → o ≡ Some p → p.on_stack ≡ false) → shown u (cond t (with_byte b o) o) ≡ cond t (with_byte b (shown u o)) (shown u o)
+put_shown true true b o h = off_stack_with b o (h refl refl) ∙ ap (with_byte b) (sym (off_stack_same o (h refl refl)))
+put_shown true false b o h = refl
+put_shown false u b o h = refl
+
+pub put_byte : (p : Pages) (d : Directory) (at : ℕ) (b : Byte) → IsReady at p → ((a : ℕ) → contents d a ≡ put at b (contents p.directory) a) → memory_in (record p { directory = d }) ≡ put at b (memory_in p)
+unfolding memory_in forget_below put
+put_byte p d at b ready h = λ i a. (ap (shown (ltb a p.lowest)) (h a) ∙ put_shown (a == at) (ltb a p.lowest) b (contents p.directory a) (λ e l q f. let s = eqb-true a at e in (ready.off (omega (arith, s, ltb-true a p.lowest l))).off q (ap (contents p.directory) (sym s) ∙ f))) i
+
+pub put_after : (at : ℕ) (b : Byte) (m n : Memory) → m ≡ n → put at b m ≡ put at b n
+put_after at b m n e = ap (put at b) e
+
+-- ---- accesses
+pub shown_allows : (kind : AccessKind) (t : Bool) (o : Option Place) → allows kind (shown t o) ≡ allows kind o
+shown_allows kind true None = refl
+shown_allows Load true (Some p) = refl
+shown_allows Store true (Some p) = refl
+shown_allows kind false o = refl
+
+pub allowed_in : (p : Pages) (kind : AccessKind) (a : ℕ) → allows kind (memory_in p a) ≡ allows kind (contents p.directory a)
+unfolding memory_in forget_below
+allowed_in p kind a = shown_allows kind (ltb a p.lowest) (contents p.directory a)
+
+shown_writable : (t : Bool) (o : Option Place) → option_map (λ (q : Place). q.can_write) o ≡ option_map (λ (q : Place). q.can_write) (shown t o)
+shown_writable true None = refl
+shown_writable true (Some p) = refl
+shown_writable false o = refl
+
+pub writable_in : (p : Pages) (a : ℕ) → option_map (λ (q : Place). q.can_write) (contents p.directory a) ≡ option_map (λ (q : Place). q.can_write) (memory_in p a)
+unfolding memory_in forget_below
+writable_in p a = shown_writable (ltb a p.lowest) (contents p.directory a)
+
+pub kept_pages : {A E : Type 0} (r : Result A E) (p : Pages) (d : Directory) (at : ℕ) → OnOk r ((a : ℕ) → a / 4096 ≡ at / 4096 → allows Load (contents p.directory a) ≡ true → keeps d a ≡ true) → OnOk r ((a : ℕ) → a / 4096 ≡ at / 4096 → allows Load (memory_in p a) ≡ true → is_kept (record p { directory = d }) a ≡ true)
+unfolding is_kept
+kept_pages (Err e) p d at h = tt
+kept_pages (Ok x) p d at h = λ a s l. h a s (sym (allowed_in p Load a) ∙ l)
+
+pub not_kept : {A E : Type 0} (r : Result A E) (p : Pages) (at : ℕ) → OnErr r (keeps p.directory at ≡ false) → OnErr r (is_kept p at ≡ false)
+unfolding is_kept
+not_kept r p at h = h
+
+pub is_kept_there : (p : Pages) (at : ℕ) → is_kept p at ≡ true → keeps p.directory at ≡ true
+unfolding is_kept
+is_kept_there p at h = h
+
+pub read_some : (o : Option Place) (b : Byte) → Some b ≡ seen o → Ok b ≡ byte_read o
+read_some None b e = absurd cc
+read_some (Some p) b e = cc
+
+pub read_none : (o : Option Place) → None ≡ seen o → Err fault.NotMapped ≡ byte_read o
+read_none None e = refl
+read_none (Some p) e = absurd cc
+
+-- what the permission of a place allows
+pub not_mapped : (o : Option Place) → None ≡ option_map (λ (p : Place). p.can_write) o → allows Load o ≡ false
+not_mapped None e = refl
+not_mapped (Some p) e = absurd cc
+
+pub is_mapped : (o : Option Place) (w : Bool) → Some w ≡ option_map (λ (p : Place). p.can_write) o → allows Load o ≡ true
+is_mapped None w e = absurd cc
+is_mapped (Some p) w e = refl
+
+pub is_writable : (o : Option Place) (w : Bool) → Some w ≡ option_map (λ (p : Place). p.can_write) o → allows Store o ≡ w
+is_writable None w e = absurd cc
+is_writable (Some p) w e = cc
+
+pub judged_in : (r : Bool) (kind : AccessKind) (p : Pages) (at count : ℕ) → Judges r kind (contents p.directory) at count → Judges r kind (memory_in p) at count
+judged_in true kind p at count h = λ k l. allowed_in p kind (at + k) ∙ h k l
+judged_in false kind p at count h = (h.0, h.1, allowed_in p kind (at + h.0) ∙ h.2)

@@ -1,0 +1,10 @@
+use Rattle.std.proofs.Common.{arith, refl, map}
+use Rattle.x86_values.specs.declared.byte.Byte.TheVariants.{Known}
+use Rattle.mem_pages.proofs.pages.Pages.put_known.Goals as goal
+use Rattle.mem_pages.proofs.Runs.{none_put, more_known}
+
+pub loop-k-init : goal.loop-k-init
+loop-k-init c = none_put c.args.at (map Known c.args.bytes.now) c.args.self.now
+
+pub loop-k-preserved : goal.loop-k-preserved
+loop-k-preserved c = more_known c.args.at c.loop-k.k c.args.bytes.now _ c.args.self.now c.loop-k.self c.put.new.self (omega arith) refl c.put.ensures.memory c.put.ensures.keeps c.loop-k.invariant

@@ -1,0 +1,134 @@
+// The pages by their numbers, in tables of 1,024.
+ghost use Rattle.std.specs.Prelude.{◌≡◌, ℕ, ◌/◌, ◌%◌, ◌<◌, ◌≤◌, Bool, true, false, [], length, OnOk, Option, Some, None};
+ghost use Rattle.std.specs.Borrow.{sem};
+ghost use Rattle.std.specs.List.{slice_get};
+ghost use Rattle.std.specs.Option.{option_copied, option_map, is_some};
+ghost use Rattle.mem_pages.specs.Directory.{pages_of, page_at, contents, keeps, IsGrown, HasGrown};
+ghost use Rattle.mem_pages.specs.Lending.{LendsPage, LendsTable, LendsPageAt};
+
+use crate::page::Page;
+use std::alloc::{AllocError, Global};
+
+/// Pages side by side.
+#[derive(Drop)]
+pub struct Table {
+    pages: Vec<Page>,
+}
+
+/// The tables, each with at most 1,024 pages; those past the end of either list aren't mapped.
+#[derive(Drop)]
+pub struct Directory {
+    alloc: Global,
+    tables: Vec<Table>,
+}
+
+impl Table {
+    /// No page.
+    pub fn empty(alloc: Global) -> Table
+        ensures { result.pages.items ≡ [] }
+    {
+        Table {
+            pages: Vec::new(alloc),
+        }
+    }
+
+    /// The page with a number, from 0.
+    fn page(&self, index: usize) -> Option<&Page>
+        ensures { option_copied result ≡ slice_get self.now.pages.items index }
+    {
+        self.pages.get(index)
+    }
+
+    /// Adds pages in which nothing is mapped up to the one with a number.
+    fn grow(&mut self, alloc: Global, index: usize) -> Result<(), AllocError>
+        ensures grown { IsGrown self.old.pages.items self.new.pages.items }
+        ensures has { OnOk result (index < length self.new.pages.items) }
+    {
+        'pages: while self.pages.len() <= index {
+            self.pages.push(Page::blank(alloc))?;
+        }
+        Ok(())
+    }
+
+    /// The page with a number, to be changed.
+    fn page_mut(&mut self, index: usize) -> Option<&mut Page>
+        ensures* writes_back { sem 𝓛 (LendsPage self.entry index result) }
+        ensures value { option_map (λ g. g.now) result ≡ slice_get self.old.pages.items index }
+    {
+        self.pages.get_mut(index)
+    }
+}
+
+impl Directory {
+    /// No page.
+    #[tactic(auto, unfolding(crate::specs::Directory::page_at))]
+    pub fn empty(alloc: Global) -> Directory
+        ensures { (n : ℕ) → page_at result n ≡ None }
+    {
+        Directory {
+            alloc,
+            tables: Vec::new(alloc),
+        }
+    }
+
+    /// The table with a number.
+    fn table(&self, index: usize) -> Option<&Table>
+        ensures { option_copied result ≡ slice_get self.now.tables.items index }
+    {
+        self.tables.get(index)
+    }
+
+    /// The table with a number, to be changed.
+    fn table_mut(&mut self, index: usize) -> Option<&mut Table>
+        ensures* writes_back { sem 𝓛 (LendsTable self.entry index result) }
+        ensures value { option_map (λ t. t.now) result ≡ slice_get self.old.tables.items index }
+    {
+        self.tables.get_mut(index)
+    }
+
+    /// The page with a number.
+    #[tactic(auto, unfolding(crate::specs::Directory::page_at), using(crate::proofs::Tables::pages_of_is))]
+    pub fn page(&self, number: u32) -> Option<&Page>
+        ensures { option_copied result ≡ page_at self.now number }
+    {
+        match self.table((number / 1024) as usize) {
+            Some(table) => table.page((number % 1024) as usize),
+            None => None,
+        }
+    }
+
+    /// The page with a number, to be changed.
+    pub fn page_mut(&mut self, number: u32) -> Option<&mut Page>
+        ensures* writes_back { sem 𝓛 (LendsPageAt self.entry number result) }
+        ensures value { option_map (λ g. g.now) result ≡ page_at self.old number }
+    {
+        match self.table_mut((number / 1024) as usize) {
+            Some(table) => table.page_mut((number % 1024) as usize),
+            None => None,
+        }
+    }
+
+    /// Adds tables of no pages up to the one with a number.
+    fn grow_tables(&mut self, index: usize) -> Result<(), AllocError>
+        ensures same { (i : ℕ) → pages_of self.new.tables.items i ≡ pages_of self.old.tables.items i }
+        ensures has { OnOk result (index < length self.new.tables.items) }
+    {
+        'tables: while self.tables.len() <= index {
+            self.tables.push(Table::empty(self.alloc))?;
+        }
+        Ok(())
+    }
+
+    /// Adds pages in which nothing is mapped up to the one with a number in its table.
+    pub fn grow(&mut self, number: u32) -> Result<(), AllocError>
+        ensures grown { HasGrown self.old self.new }
+        ensures has { OnOk result (is_some (page_at self.new number) ≡ true) }
+    {
+        self.grow_tables((number / 1024) as usize)?;
+        let alloc = self.alloc;
+        match self.table_mut((number / 1024) as usize) {
+            Some(table) => table.grow(alloc, (number % 1024) as usize),
+            None => Err(AllocError),
+        }
+    }
+}

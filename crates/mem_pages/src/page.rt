@@ -1,0 +1,174 @@
+// One page of 4,096 addresses: the part of it that is mapped, and its bytes once they are kept.
+ghost use Rattle.std.specs.Prelude.{◌≡◌, ℕ, ◌+◌, ◌<◌, ◌≤◌, ◌&&◌, Bool, true, false, cond, leb, ltb, length, slice_index_or, OnOk, OnErr, Option, Some, None};
+ghost use Rattle.std.specs.Option.{option_map};
+ghost use Rattle.x86_values.specs.declared.byte.Byte.{Byte};
+ghost use Rattle.x86_values.specs.declared.byte.Byte.TheVariants as byte;
+ghost use Rattle.memory.specs.Memory.{put};
+ghost use Rattle.mem_pages.specs.Regions.{unmapped, with_region, forget_between, is_unspecified};
+ghost use Rattle.mem_pages.specs.Page.{maps, place_in, kept_in, shown, seen, KeepsBytes, Judges, kind_of_access};
+
+use std::alloc::{AllocError, Global};
+use x86_values::Byte;
+
+/// The addresses of a page, of 4,096 bytes.
+pub const PAGE: u32 = 4096;
+
+/// A page. The places from `from` up to but not with `to` are mapped. Those past the end of `bytes` have the byte `unset`. Where
+/// that is unspecified the page is one of the stack, and each of its bytes below `low` is unspecified.
+#[derive(Drop)]
+pub struct Page {
+    bytes: Vec<Byte>,
+    unset: Byte,
+    low: u32,
+    from: u32,
+    to: u32,
+    can_write: bool,
+}
+
+/// Makes the bytes from `start` up to but not with `end` unspecified.
+fn clear(bytes: &mut Vec<Byte>, start: u32, end: u32)
+    requires { start ≤ end }
+    ensures places { (i : ℕ) → slice_index_or bytes.new.items i byte.Unspecified ≡ cond (leb start i && ltb i end) byte.Unspecified (slice_index_or bytes.old.items i byte.Unspecified) }
+    ensures len { length bytes.new.items ≡ length bytes.old.items }
+{
+    let end = (end as usize).min(bytes.len());
+    for at in start as usize..end {
+        bytes[at] = Byte::Unspecified;
+    }
+}
+
+impl Page {
+    /// No place is mapped.
+    #[tactic(auto, unfolding(crate::specs::Page::place_in), using(std::proofs::lemmas::Bool::Decides::nat_tests))]
+    pub fn blank(alloc: Global) -> Page
+        ensures { (at : ℕ) → place_in result at ≡ None }
+    {
+        Page {
+            bytes: Vec::new(alloc),
+            unset: Byte::Unspecified,
+            low: 0,
+            from: 0,
+            to: 0,
+            can_write: false,
+        }
+    }
+
+    /// Whether its bytes are those of the stack.
+    pub fn is_stack(&self) -> bool
+        ensures { result ≡ is_unspecified self.now.unset }
+    {
+        matches!(self.unset, Byte::Unspecified)
+    }
+
+    /// The byte of a place, where it is mapped; unspecified on the stack where it is hidden.
+    #[tactic(auto, unfolding(crate::specs::Page::place_in))]
+    pub fn byte(&self, at: u32, hidden: bool) -> Option<Byte>
+        ensures { result ≡ seen (shown hidden (place_in self.now at)) }
+    {
+        if at < self.from || self.to <= at {
+            return None;
+        }
+        if self.is_stack() && (hidden || at < self.low) {
+            return Some(Byte::Unspecified);
+        }
+        if (at as usize) < self.bytes.len() {
+            return Some(self.bytes[at as usize]);
+        }
+        Some(self.unset)
+    }
+
+    /// Whether a mapped place can be written.
+    #[tactic(auto, unfolding(crate::specs::Page::place_in))]
+    pub fn writable(&self, at: u32) -> Option<bool>
+        ensures { result ≡ option_map (λ p. p.can_write) (place_in self.now at) }
+    {
+        if at < self.from || self.to <= at {
+            return None;
+        }
+        Some(self.can_write)
+    }
+
+    /// Whether a mapped place has a byte of its own.
+    #[tactic(auto, unfolding(crate::specs::Page::kept_in), using(std::proofs::lemmas::Bool::Decides::nat_tests))]
+    pub fn is_kept(&self, at: u32) -> bool
+        ensures { result ≡ kept_in self.now at }
+    {
+        self.from <= at && at < self.to && PAGE as usize <= self.bytes.len()
+    }
+
+    /// Gives each place a byte of its own.
+    pub fn keep(&mut self) -> Result<(), AllocError>
+        ensures places { (at : ℕ) → place_in self.new at ≡ place_in self.old at }
+        ensures keeps { KeepsBytes self.old self.new }
+        ensures kept { OnOk result ((at : ℕ) → kept_in self.new at ≡ maps self.new at) }
+        ensures missing { OnErr result ((at : ℕ) → kept_in self.old at ≡ false) }
+    {
+        if self.bytes.len() < PAGE as usize {
+            self.bytes.resize(PAGE as usize, self.unset)?;
+        }
+        Ok(())
+    }
+
+    /// Lets bytes from `at` on be known, of the stack too.
+    pub fn expose(&mut self, at: u32)
+        ensures places { (k : ℕ) → place_in self.new k ≡ place_in self.old k }
+        ensures keeps { (k : ℕ) → kept_in self.new k ≡ kept_in self.old k }
+        ensures exposed { is_unspecified self.new.unset ≡ true → self.new.low ≤ at }
+    {
+        if self.is_stack() && at < self.low {
+            clear(&mut self.bytes, at, self.low);
+            self.low = at;
+        }
+    }
+
+    /// Makes the byte of a place another.
+    pub fn put(&mut self, at: u32, byte: Byte)
+        requires kept { kept_in self.old at ≡ true }
+        requires in_page { at < 4096 }
+        ensures places { (k : ℕ) → place_in self.new k ≡ put at byte (place_in self.old) k }
+        ensures keeps { (k : ℕ) → kept_in self.new k ≡ kept_in self.old k }
+    {
+        self.expose(at);
+        self.bytes[at as usize] = byte;
+    }
+
+    /// Makes the bytes of the stack from `start` up to but not with `end` unspecified.
+    pub fn forget(&mut self, start: u32, end: u32)
+        requires { start ≤ end }
+        ensures places { (k : ℕ) → place_in self.new k ≡ forget_between start end (place_in self.old) k }
+        ensures keeps { (k : ℕ) → kept_in self.new k ≡ kept_in self.old k }
+    {
+        if !self.is_stack() {
+            return;
+        }
+        if self.low < start {
+            clear(&mut self.bytes, start, end);
+        } else if self.low < end {
+            self.low = end;
+        }
+    }
+
+    /// Maps the places from `start` up to but not with `end` where none is mapped.
+    #[tactic(auto, unfolding(crate::specs::Page::place_in, crate::specs::Regions::with_region))]
+    pub fn map(&mut self, start: u32, end: u32, can_write: bool, unset: Byte)
+        requires { (k : ℕ) → k < 4096 → place_in self.old k ≡ None }
+        ensures { (k : ℕ) → k < 4096 → place_in self.new k ≡ with_region start end can_write unset (place_in self.old) k }
+    {
+        self.bytes.clear();
+        self.unset = unset;
+        self.low = 0;
+        self.from = start;
+        self.to = end;
+        self.can_write = can_write;
+    }
+
+    /// Whether each of some places allows a load, or a store.
+    #[tactic(auto, unfolding(crate::specs::Page::place_in), using(std::proofs::lemmas::Bool::Decides::nat_tests))]
+    pub fn allows(&self, at: u32, count: u32, store: bool) -> bool
+        requires some { 0 < count }
+        requires in_page { at + count ≤ 4096 }
+        ensures { Judges result (kind_of_access store) (place_in self.now) at count }
+    {
+        self.from <= at && at + count <= self.to && (self.can_write || !store)
+    }
+}

@@ -1,0 +1,137 @@
+// The places of a directory, by their addresses.
+ghost use Rattle.std.specs.Prelude.{◌≡◌, ℕ, ◌+◌, ◌*◌, ◌/◌, ◌%◌, ◌<◌, ◌≤◌, Bool, true, false, OnOk, OnErr, Option, Some, None};
+ghost use Rattle.std.specs.Option.{option_map, is_some};
+ghost use Rattle.memory.specs.Memory.{Load, put, allows};
+ghost use Rattle.mem_pages.specs.Regions.{with_region, forget_between};
+ghost use Rattle.mem_pages.specs.Page.{shown, seen, IsOffStack, Judges, kind_of_access};
+ghost use Rattle.mem_pages.specs.Directory.{page_at, contents, keeps, KeepsPlaces, HasGrown};
+
+use crate::directory::Directory;
+use crate::page::PAGE;
+use std::alloc::AllocError;
+use x86_values::Byte;
+
+/// The end of the part of a range that lies in the page of its first address.
+pub fn part_end(start: u32, end: u32) -> u32
+    requires { start < end }
+    ensures more { start < result }
+    ensures within { result ≤ end }
+    ensures in_page { result ≤ 4096 * (start / 4096) + 4096 }
+    ensures aligned { result < end → result % 4096 ≡ 0 }
+{
+    let left = PAGE - start % PAGE;
+    if end - start <= left {
+        return end;
+    }
+    start + left
+}
+
+impl Directory {
+    /// The byte at an address, where it is mapped; unspecified on the stack where it is hidden.
+    pub fn byte(&self, at: u32, hidden: bool) -> Option<Byte>
+        ensures { result ≡ seen (shown hidden (contents self.now at)) }
+    {
+        match self.page(at / PAGE) {
+            Some(page) => page.byte(at % PAGE, hidden),
+            None => None,
+        }
+    }
+
+    /// Whether a mapped place can be written.
+    pub fn writable(&self, at: u32) -> Option<bool>
+        ensures { result ≡ option_map (λ p. p.can_write) (contents self.now at) }
+    {
+        match self.page(at / PAGE) {
+            Some(page) => page.writable(at % PAGE),
+            None => None,
+        }
+    }
+
+    /// Whether a place has a byte of its own.
+    pub fn is_kept(&self, at: u32) -> bool
+        ensures { result ≡ keeps self.now at }
+    {
+        match self.page(at / PAGE) {
+            Some(page) => page.is_kept(at % PAGE),
+            None => false,
+        }
+    }
+
+    /// Whether the mapped places of a page are those of the stack.
+    pub fn is_stack(&self, at: u32) -> bool
+        ensures { result ≡ false → IsOffStack at (contents self.now) }
+    {
+        match self.page(at / PAGE) {
+            Some(page) => page.is_stack(),
+            None => false,
+        }
+    }
+
+    /// Whether each of some places of a page allows a load, or a store.
+    pub fn allows(&self, at: u32, count: u32, store: bool) -> bool
+        requires some { 0 < count }
+        requires in_page { at % 4096 + count ≤ 4096 }
+        ensures { Judges result (kind_of_access store) (contents self.now) at count }
+    {
+        match self.page(at / PAGE) {
+            Some(page) => page.allows(at % PAGE, count, store),
+            None => false,
+        }
+    }
+
+    /// Makes the byte of a place another.
+    pub fn put(&mut self, at: u32, byte: Byte)
+        requires { keeps self.old at ≡ true }
+        ensures places { (a : ℕ) → contents self.new a ≡ put at byte (contents self.old) a }
+        ensures keeps { KeepsPlaces self.old self.new }
+    {
+        match self.page_mut(at / PAGE) {
+            Some(page) => page.put(at % PAGE, byte),
+            None => (),
+        }
+    }
+
+    /// Gives each place of a page a byte of its own.
+    pub fn keep(&mut self, at: u32) -> Result<(), AllocError>
+        ensures places { (a : ℕ) → contents self.new a ≡ contents self.old a }
+        ensures keeps { KeepsPlaces self.old self.new }
+        ensures kept { OnOk result ((a : ℕ) → a / 4096 ≡ at / 4096 → allows Load (contents self.old a) ≡ true → keeps self.new a ≡ true) }
+        ensures missing { OnErr result (keeps self.old at ≡ false) }
+    {
+        match self.page_mut(at / PAGE) {
+            Some(page) => page.keep(),
+            None => Ok(()),
+        }
+    }
+
+    /// Makes the bytes of the stack in a part of a page unspecified.
+    pub fn forget_part(&mut self, start: u32, end: u32)
+        requires order { start ≤ end }
+        requires in_page { end ≤ 4096 * (start / 4096) + 4096 }
+        ensures places { (a : ℕ) → contents self.new a ≡ forget_between start end (contents self.old) a }
+        ensures keeps { KeepsPlaces self.old self.new }
+    {
+        match self.page_mut(start / PAGE) {
+            Some(page) => page.forget(start % PAGE, start % PAGE + (end - start)),
+            None => (),
+        }
+    }
+
+    /// Maps a part of a page in which nothing is mapped.
+    pub fn map_part(&mut self, start: u32, end: u32, can_write: bool, unset: Byte)
+        requires order { start ≤ end }
+        requires in_page { end ≤ 4096 * (start / 4096) + 4096 }
+        requires there { is_some (page_at self.old (start / 4096)) ≡ true }
+        requires free { (a : ℕ) → a / 4096 ≡ start / 4096 → contents self.old a ≡ None }
+        ensures places { (a : ℕ) → contents self.new a ≡ with_region start end can_write unset (contents self.old) a }
+        ensures keeps { KeepsPlaces self.old self.new }
+        ensures pages { (n : ℕ) → is_some (page_at self.new n) ≡ is_some (page_at self.old n) }
+    {
+        match self.page_mut(start / PAGE) {
+            Some(page) => {
+                page.map(start % PAGE, start % PAGE + (end - start), can_write, unset);
+            }
+            None => (),
+        }
+    }
+}
