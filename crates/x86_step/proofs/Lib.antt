@@ -1,1 +1,2 @@
 pub mod SizeOfWidth
+pub mod AddressLemmas

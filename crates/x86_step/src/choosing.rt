@@ -4,9 +4,9 @@ ghost use Rattle.x86_meaning.specs.Outcomes as spec;
 ghost use Rattle.x86_step.specs.Computed.{computation_of, values_of};
 
 use crate::outcome::{Computed, Way, goes, values_alone};
-use crate::values::Values;
+use crate::values::{Values, no_word};
 use x86_meaning::Stop;
-use x86_values::{Byte, Flags, Word, cut, word_of};
+use x86_values::{Flags, Word, cut, word_of};
 
 // The second word where the condition holds, else the first.
 #[inline]
@@ -14,12 +14,7 @@ fn chosen(holds: Option<bool>, x: Word, y: Word) -> Word
     ensures exact { result ≡ spec.chosen holds x y }
 {
     match holds {
-        None => Word {
-            b0: Byte::Unspecified,
-            b1: Byte::Unspecified,
-            b2: Byte::Unspecified,
-            b3: Byte::Unspecified,
-        },
+        None => no_word(),
         Some(true) => y,
         Some(false) => x,
     }

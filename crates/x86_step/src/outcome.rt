@@ -9,7 +9,7 @@ use x86_values::{Answered, Flags};
 
 /// How a step goes on: to the next instruction; by so much from there, modulo 2^32; to an address; to the same instruction again; or
 /// through a system call.
-#[derive(Clone, Copy, Debug, PartialEq, Eq)]
+#[derive(Clone, Copy)]
 pub(crate) enum Way {
     Falls,
     JumpsBy(u32),
@@ -19,7 +19,7 @@ pub(crate) enum Way {
 }
 
 /// A value for each operand that is written, in order; the flags after it, and how the step goes on.
-#[derive(Clone, Copy, Debug, PartialEq, Eq)]
+#[derive(Clone, Copy)]
 pub(crate) struct Computed {
     pub values: Values,
     pub flags: Flags,
