@@ -1,9 +1,9 @@
 -- Words raised and lowered, by their numbers.
-use Rattle.std.proofs.Common.{◌≡◌, ℕ, ◌+◌, ◌-◌, ◌%◌, ◌^◌, ◌<◌, Bool, false, Option, Some, None, refl, sym, ap, subst, ◌∙◌, arith}
+use Rattle.std.proofs.Common.{◌≡◌, ℕ, ◌+◌, ◌-◌, ◌%◌, ◌^◌, ◌<◌, Bool, false, Option, Some, None, refl, sym, ap, ◌∙◌, arith}
 use Rattle.x86_values.specs.declared.word.Word.{Word}
 use Rattle.x86_values.specs.declared.answered.Answered.{Answered}
 use Rattle.x86_values.specs.Words.{word_of, known}
-use Rattle.x86_values.specs.Sizes.{cut, number, no_word, full}
+use Rattle.x86_values.specs.Sizes.{cut, number, no_word}
 use Rattle.x86_values.specs.Results.{no_result}
 use Rattle.x86_values.specs.Sums.{add, sub, sum, difference, of_known}
 use Rattle.x86_values.specs.WordLaws.{WordLaws}

@@ -31,9 +31,7 @@ pub(crate) fn cmov_computed(
     ensures exact { computation_of result ≡ spec.on_two (spec.cmov_computed size holds flags) (values_of values) }
 {
     match values {
-        Values::Two(x, y) => {
-            values_alone(Values::One(cut(size, chosen(holds, x, y))), flags)
-        }
+        Values::Two(x, y) => { values_alone(Values::One(cut(size, chosen(holds, x, y))), flags) }
         _ => Err(Stop::Unspecified),
     }
 }

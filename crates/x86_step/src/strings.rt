@@ -22,12 +22,7 @@ pub(crate) fn movs_computed(size: u8, flags: Flags, values: Values) -> Result<Co
             values_alone(written, flags)
         }
         Values::Four(x, si, di, cx) => {
-            let written = Values::Four(
-                x,
-                raised_by(by, si),
-                raised_by(by, di),
-                lowered_by(1, cx),
-            );
+            let written = Values::Four(x, raised_by(by, si), raised_by(by, di), lowered_by(1, cx));
             comes_to(written, flags, Way::Repeats)
         }
         Values::Zero | Values::One(..) | Values::Two(..) => values_alone(Values::Zero, flags),
