@@ -1,3 +1,5 @@
+pub mod SizeOfWidth
+pub mod AddressLemmas
 pub mod Reading
 pub mod RegisterValues
 pub mod Writing

@@ -2,19 +2,27 @@
 #![tactic(auto)]
 
 mod access;
+mod addresses;
+mod arithmetic;
+mod choosing;
 mod computing;
 mod effect;
 mod finish;
 mod judge;
-mod operand;
 mod located;
+mod moving;
+mod operand;
 mod operands;
+mod outcome;
+mod procedures;
+mod products;
 mod repeats;
 mod shapes;
+mod shifting;
 mod stack;
-mod outcome;
 mod step;
 mod stepped;
+mod strings;
 mod transfer;
 mod values;
 

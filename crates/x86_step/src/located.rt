@@ -11,7 +11,12 @@ use crate::shapes;
 use x86_types::{AluOp, Count, Width};
 
 /// Both operands are read, and the first is computed from them, unless they are compared.
-pub(crate) fn alu(op: AluOp, width: Width, to: Option<Location>, from: Option<Location>) -> Option<Transfer>
+pub(crate) fn alu(
+    op: AluOp,
+    width: Width,
+    to: Option<Location>,
+    from: Option<Location>,
+) -> Option<Transfer>
     ensures { option_map transfer_of result ≡ spec.by_two (spec.alu_transfer op (size_of width)) (option_map location_of to) (option_map location_of from) }
 {
     match (to, from) {
@@ -21,7 +26,11 @@ pub(crate) fn alu(op: AluOp, width: Width, to: Option<Location>, from: Option<Lo
 }
 
 /// Both operands are read.
-pub(crate) fn compare(width: Width, to: Option<Location>, from: Option<Location>) -> Option<Transfer>
+pub(crate) fn compare(
+    width: Width,
+    to: Option<Location>,
+    from: Option<Location>,
+) -> Option<Transfer>
     ensures { option_map transfer_of result ≡ spec.by_two (spec.compare_transfer (size_of width)) (option_map location_of to) (option_map location_of from) }
 {
     match (to, from) {
@@ -41,7 +50,11 @@ pub(crate) fn moved(width: Width, to: Option<Location>, from: Option<Location>) 
 }
 
 /// The first operand is computed from both and a count.
-pub(crate) fn double_shift(count: Count, to: Option<Location>, from: Option<Location>) -> Option<Transfer>
+pub(crate) fn double_shift(
+    count: Count,
+    to: Option<Location>,
+    from: Option<Location>,
+) -> Option<Transfer>
     ensures { option_map transfer_of result ≡ spec.by_two (spec.double_shift_transfer count) (option_map location_of to) (option_map location_of from) }
 {
     match (to, from) {
@@ -91,7 +104,12 @@ pub(crate) fn combine(width: Width, to: Location, from: Option<Location>) -> Opt
 }
 
 /// The first operand is computed from the second and a constant.
-pub(crate) fn multiply_by(width: Width, by: u32, to: Location, from: Option<Location>) -> Option<Transfer>
+pub(crate) fn multiply_by(
+    width: Width,
+    by: u32,
+    to: Location,
+    from: Option<Location>,
+) -> Option<Transfer>
     ensures { option_map transfer_of result ≡ spec.by_one (spec.multiply_by_transfer (size_of width) by (location_of to)) (option_map location_of from) }
 {
     match from {
@@ -121,7 +139,12 @@ pub(crate) fn exchange(width: Width, right: Place, left: Option<Location>) -> Op
 }
 
 /// An operand is moved to one of another width.
-pub(crate) fn moved_to(wide: Width, width: Width, to: Location, from: Option<Location>) -> Option<Transfer>
+pub(crate) fn moved_to(
+    wide: Width,
+    width: Width,
+    to: Location,
+    from: Option<Location>,
+) -> Option<Transfer>
     ensures { option_map transfer_of result ≡ spec.by_one (spec.move_transfer (size_of wide) (size_of width) (location_of to)) (option_map location_of from) }
 {
     match from {

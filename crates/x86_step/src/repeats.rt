@@ -82,10 +82,7 @@ fn stos_again(width: Width, to: u32) -> Transfer
             in_register(edi),
             in_register(ecx),
         ),
-        writes: Writes::Then(
-            operand(width, Location::Memory(to)),
-            Fields::Two(edi, ecx),
-        ),
+        writes: Writes::Then(operand(width, Location::Memory(to)), Fields::Two(edi, ecx)),
     }
 }
 

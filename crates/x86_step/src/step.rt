@@ -34,12 +34,7 @@ fn behind(eip: u32, len: u8) -> u32
 }
 
 // Makes one step of an instruction that makes no system call.
-fn step_whole(
-    instr: &Instr,
-    len: u8,
-    cpu: &mut Cpu,
-    mem: &mut Pages,
-) -> Result<Stepped, AllocError>
+fn step_whole(instr: &Instr, len: u8, cpu: &mut Cpu, mem: &mut Pages) -> Result<Stepped, AllocError>
     requires no_call { instr.now ≢ variants.Int80 }
     ensures steps { StepsOrStays instr.now len result cpu.old (memory_in mem.old) cpu.new (memory_in mem.new) }
     ensures keeps { KeepsPages mem.old mem.new }
