@@ -1,8 +1,30 @@
 //! One step of the processor, over pages.
 #![tactic(auto)]
 
+mod access;
+mod addresses;
+mod arithmetic;
+mod choosing;
+mod computing;
+mod effect;
+mod finish;
+mod judge;
+mod located;
+mod moving;
+mod operand;
+mod operands;
+mod outcome;
+mod procedures;
+mod products;
+mod repeats;
+mod shapes;
+mod shifting;
+mod stack;
 mod step;
 mod stepped;
+mod strings;
+mod transfer;
+mod values;
 
 pub use step::step_one;
 pub use stepped::Stepped;
