@@ -4,6 +4,7 @@
 mod access;
 mod directory;
 mod fault;
+mod lend;
 mod page;
 mod pages;
 mod places;
