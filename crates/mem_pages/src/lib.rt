@@ -5,6 +5,7 @@ mod access;
 mod directory;
 mod end;
 mod fault;
+mod lend;
 mod page;
 mod pages;
 mod places;

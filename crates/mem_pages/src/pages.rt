@@ -1,10 +1,11 @@
 // Pages: a directory of pages, and the address below which no byte of the stack is known.
-ghost use Rattle.std.specs.Prelude.{◌≡◌, ℕ, ◌+◌, ◌/◌, ◌%◌, ◌<◌, ◌≤◌, Bool, true, false, Some, None, OnOk, OnErr};
+ghost use Rattle.std.specs.Prelude.{◌≡◌, ℕ, ◌+◌, ◌/◌, ◌%◌, ◌<◌, ◌≤◌, Bool, true, false, Some, None, OnOk, OnErr, IfSome};
 ghost use Rattle.std.specs.Option.{option_map};
 ghost use Rattle.memory.specs.Memory as spec;
 ghost use Rattle.memory.specs.Memory.{Place, Load, allows};
 ghost use Rattle.mem_pages.specs.Regions.{unmapped, with_region, HasRoom, forget_between};
-ghost use Rattle.mem_pages.specs.Page.{seen, Judges, kind_of_access};
+ghost use Rattle.mem_pages.specs.Page.{seen, ShowsBytes, Judges, kind_of_access};
+ghost use Rattle.mem_pages.specs.Directory.{contents};
 ghost use Rattle.mem_pages.specs.Contents.{memory_in, is_kept, IsReady};
 ghost use Rattle.mem_pages.specs.Accesses.{byte_read, KeepsPages, SameMemory, Writes};
 
@@ -68,6 +69,24 @@ impl Pages {
             Some(byte) => Ok(byte),
             None => Err(PageFault::NotMapped),
         }
+    }
+
+    /// Whether the bytes of a page from an address on are what is kept of them, as far as `lowest` says.
+    pub(crate) fn is_ready(&self, at: u32) -> bool
+        ensures { result ≡ true → IsReady at self.now }
+    {
+        if self.lowest <= at {
+            return true;
+        }
+        !self.directory.is_stack(at)
+    }
+
+    /// The bytes of some places of a page, where they are kept as they are read.
+    pub(crate) fn part(&self, at: u32, count: u32) -> Option<&[Byte]>
+        requires { at % 4096 + count ≤ 4096 }
+        ensures { IfSome result (λ part. ShowsBytes (contents self.now.directory) at count part.now) }
+    {
+        self.directory.part(at, count)
     }
 
     /// Makes the stack's bytes below an address known ones again, as far as they are.
