@@ -2,6 +2,5 @@ pub mod Regions
 pub mod Page
 pub mod Directory
 pub mod Lending
-pub mod LendingBytes
 pub mod Contents
 pub mod Accesses
