@@ -1,16 +1,16 @@
 -- From a page that is another to the places of the directory.
 use Rattle.std.proofs.Common.{◌≡◌, ◌≢◌, ℕ, length, ◌+◌, ◌-◌, ◌*◌, ◌/◌, ◌%◌, ◌<◌, ◌≤◌, ◌==◌, ◌&&◌, Bool, true, false, cond, leb, ltb, List, Option, Some, None, Result, Ok, Err, arith, refl, sym, ◌∙◌, ap, inl, inr}
-use Rattle.std.specs.Option.{option_map, OnSome, IfSome, is_some}
+use Rattle.std.specs.Option.{OnSome, IfSome, is_some}
 use Rattle.std.specs.Result.{OnOk, OnErr}
 use Rattle.std.proofs.lemmas.Bool.{cases_eq, cases_Bool, eq-eqb, ne_eqb, cond-false, and_parts, ltb-true, leb-true, false≢true}
 use Rattle.std.proofs.lemmas.Option.{none-some}
 use Rattle.std.proofs.lemmas.Bool.Decides.{nat_tests}
 use Rattle.x86_values.specs.declared.byte.Byte.{Byte}
-use Rattle.memory.specs.Memory.{Place, Memory, AccessKind, Load, allows, byte_of, with_byte, put, forgotten}
+use Rattle.memory.specs.Memory.{Place, AccessKind, Load, allows, byte_of, with_byte, put, forgotten}
 use Rattle.mem_pages.specs.declared.page.Page.{Page}
 use Rattle.mem_pages.specs.declared.directory.Directory.{Directory}
 use Rattle.mem_pages.specs.Regions.{region_place, is_unspecified, with_region, forget_between}
-use Rattle.mem_pages.specs.Page.{maps, place_in, kept_in, KeepsBytes, IsOffStack, Judges, ShowsBytes}
+use Rattle.mem_pages.specs.Page.{maps, place_in, kept_in, IsOffStack, Judges, ShowsBytes}
 use Rattle.mem_pages.specs.Directory.{page_at, place_on, kept_on, contents, keeps, KeepsPlaces, IsWithPage}
 
 pub holds : {A : Type 0} (o : Option A) (x : A) (P : Type 0) → o ≡ Some x → OnSome o P → P

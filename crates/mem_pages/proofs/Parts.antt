@@ -1,19 +1,16 @@
 -- What was done to the parts of a range so far.
-use Rattle.std.proofs.Common.{◌≡◌, ◌≢◌, ℕ, length, ◌+◌, ◌*◌, ◌/◌, ◌%◌, ◌<◌, ◌≤◌, ◌&&◌, ◌||◌, Bool, true, false, cond, leb, ltb, List, Option, Some, None, Result, Ok, Err, arith, refl, sym, ◌∙◌, ap, inl, inr}
+use Rattle.std.proofs.Common.{◌≡◌, ℕ, length, ◌+◌, ◌*◌, ◌/◌, ◌%◌, ◌<◌, ◌≤◌, ◌&&◌, ◌||◌, Bool, true, false, cond, leb, ltb, List, Option, Some, None, arith, refl, sym, ◌∙◌, ap, inl, inr}
 use Rattle.std.specs.List.{slice_get}
 use Rattle.std.specs.Option.{is_some}
-use Rattle.std.specs.Result.{OnOk}
 use Rattle.std.proofs.lemmas.Option.{slice_get_past}
-use Rattle.std.proofs.lemmas.Bool.{cases_lt, cases_eq, cases_Bool, cond-false, false≢true}
+use Rattle.std.proofs.lemmas.Bool.{cases_lt, cond-false, false≢true}
 use Rattle.std.proofs.lemmas.Bool.Decides.{nat_tests}
 use Rattle.x86_values.specs.declared.byte.Byte.{Byte}
 use Rattle.memory.specs.Memory.{Place, forgotten}
 use Rattle.mem_pages.specs.declared.page.Page.{Page}
 use Rattle.mem_pages.specs.declared.directory.Directory.{Directory}
 use Rattle.mem_pages.specs.Regions.{region_place, with_region, forget_between, HasRoom}
-use Rattle.mem_pages.specs.Page.{place_in, kept_in}
-use Rattle.mem_pages.specs.Directory.{pages_of, page_at, place_on, kept_on, contents, keeps, KeepsPlaces, IsGrown, HasGrown, HasPages}
-use Rattle.mem_pages.proofs.Lifting.{unmapped_is_not_kept}
+use Rattle.mem_pages.specs.Directory.{page_at, place_on, kept_on, contents, keeps, KeepsPlaces, IsGrown, HasGrown, HasPages}
 
 pub keeps_itself : (d : Directory) → KeepsPlaces d d
 keeps_itself d = record { kept = λ a h. h }

@@ -1,13 +1,13 @@
 -- Accesses of several bytes: judged, kept, stored, loaded and copied one after the other.
-use Rattle.std.proofs.Common.{◌≡◌, ◌≢◌, ℕ, zero, suc, ◌+◌, ◌-◌, ◌/◌, ◌%◌, ◌^◌, ◌<◌, ◌≤◌, ◌&&◌, Bool, true, false, cond, List, [], ◌∷◌, ◌++◌, length, map, take, get_or, Option, Some, None, Result, Ok, Err, arith, refl, sym, ◌∙◌, ap, subst, inl, inr}
-use Rattle.std.specs.Result.{OnOk, OnErr, is_err}
+use Rattle.std.proofs.Common.{◌≡◌, ℕ, zero, suc, ◌+◌, ◌-◌, ◌/◌, ◌%◌, ◌^◌, ◌<◌, ◌≤◌, ◌&&◌, Bool, true, false, cond, List, [], ◌∷◌, ◌++◌, length, map, take, get_or, Option, Some, None, Result, Ok, Err, arith, refl, sym, ◌∙◌, ap, inl, inr}
+use Rattle.std.specs.Result.{OnOk, is_err}
 use Rattle.std.proofs.Math.ListN.{set}
-use Rattle.std.proofs.lemmas.List.{same_lists, get_or_default, length-take, take_more, take_more_set, take_all, length-take-le, map-append, length-map}
-use Rattle.std.proofs.lemmas.Bool.{cases_lt, cases_Bool, and_parts, false≢true, false_from_ne_true}
+use Rattle.std.proofs.lemmas.List.{same_lists, get_or_default, length-take, take_more, take_more_set, take_all, length-take-le, length-map}
+use Rattle.std.proofs.lemmas.Bool.{cases_lt, and_parts, false≢true, false_from_ne_true}
 use Rattle.x86_values.specs.declared.byte.Byte.{Byte}
 use Rattle.x86_values.specs.declared.byte.Byte.TheVariants.{Known, Unspecified}
-use Rattle.x86_values.specs.Words.{known_byte, with_number, all_known, padded}
-use Rattle.memory.specs.Memory.{Place, Memory, AccessKind, Load, Store, allows, allows_all, wrapped, put, put_all, byte_of, bytes_at}
+use Rattle.x86_values.specs.Words.{known_byte, with_number, all_known}
+use Rattle.memory.specs.Memory.{Place, Memory, AccessKind, Load, allows, allows_all, wrapped, put, put_all, byte_of, bytes_at}
 use Rattle.mem_pages.specs.declared.pages.Pages.{Pages}
 use Rattle.mem_pages.specs.Page.{Judges, seen, joined, known_there, ShowsBytes}
 use Rattle.mem_pages.specs.Contents.{memory_in, is_kept}

@@ -1,21 +1,20 @@
 -- From the places of the directory to the memory, of which the stack is forgotten below an address.
-use Rattle.std.proofs.Common.{◌≡◌, ◌≢◌, ℕ, ◌+◌, ◌-◌, ◌/◌, ◌%◌, ◌<◌, ◌≤◌, ◌==◌, ◌&&◌, ◌||◌, Bool, true, false, cond, leb, ltb, List, Option, Some, None, Result, Ok, Err, arith, refl, sym, ◌∙◌, ap, inl, inr}
+use Rattle.std.proofs.Common.{◌≡◌, ℕ, ◌+◌, ◌/◌, ◌%◌, ◌<◌, ◌≤◌, ◌==◌, ◌&&◌, ◌||◌, Bool, true, false, cond, leb, ltb, List, Option, Some, None, Result, Ok, Err, arith, refl, sym, ◌∙◌, ap}
 use Rattle.std.specs.Option.{option_map}
 use Rattle.std.specs.Result.{OnOk, OnErr}
-use Rattle.std.proofs.lemmas.Bool.{cases_eq, cases_lt, cases_Bool, cond-true, cond-false, lt-ltb, le-ltb, ltb-true, eqb-true, ne_eqb, eq-eqb, false≢true}
+use Rattle.std.proofs.lemmas.Bool.{cond-false, lt-ltb, ltb-true, eqb-true, false≢true}
 use Rattle.std.proofs.lemmas.Bool.Decides.{nat_tests}
 use Rattle.x86_values.specs.declared.byte.Byte.{Byte}
 use Rattle.x86_values.specs.declared.byte.Byte.TheVariants.{Known, Unspecified}
 use Rattle.memory.specs.Memory.{Place, Memory, AccessKind, Load, Store, allows, byte_of, with_byte, put, forgotten, forget_below}
 use Rattle.mem_pages.specs.declared.directory.Directory.{Directory}
 use Rattle.mem_pages.specs.declared.pages.Pages.{Pages}
-use Rattle.mem_pages.specs.declared.fault.PageFault.{PageFault}
 use Rattle.mem_pages.specs.declared.fault.PageFault.TheVariants as fault
-use Rattle.mem_pages.specs.Regions.{unmapped, region_place, with_region, forget_between, is_unspecified, HasRoom}
-use Rattle.mem_pages.specs.Page.{shown, seen, IsOffStack, Judges, ShowsBytes}
+use Rattle.mem_pages.specs.Regions.{unmapped, region_place, with_region, forget_between, HasRoom}
+use Rattle.mem_pages.specs.Page.{shown, seen, Judges, ShowsBytes}
 use Rattle.mem_pages.specs.Directory.{page_at, contents, keeps, KeepsPlaces, place_on}
 use Rattle.mem_pages.specs.Contents.{memory_in, is_kept, IsReady}
-use Rattle.mem_pages.specs.Accesses.{byte_read, KeepsPages, SameMemory, Writes}
+use Rattle.mem_pages.specs.Accesses.{byte_read, KeepsPages, SameMemory}
 use Rattle.mem_pages.proofs.Parts.{forget_joined}
 
 pub at_place : (p : Pages) (a : ℕ) → memory_in p a ≡ shown (ltb a p.lowest) (contents p.directory a)

@@ -1,8 +1,8 @@
 -- The pages of tables.
-use Rattle.std.proofs.Common.{◌≡◌, ◌≢◌, ℕ, zero, suc, ◌+◌, ◌*◌, ◌/◌, ◌%◌, ◌<◌, ◌≤◌, ◌==◌, ◌&&◌, Bool, true, false, cond, List, [], ◌∷◌, ◌++◌, length, Option, Some, None, Result, Ok, Err, arith, refl, sym, ◌∙◌, ap, inl, inr}
-use Rattle.std.proofs.Math.ListN.{set, length-set, length-append}
+use Rattle.std.proofs.Common.{◌≡◌, ◌≢◌, ℕ, zero, suc, ◌/◌, ◌%◌, ◌<◌, ◌≤◌, ◌==◌, ◌&&◌, Bool, true, false, cond, List, [], ◌∷◌, ◌++◌, length, Option, Some, None, Result, Ok, Err, arith, refl, sym, ◌∙◌, ap, inl, inr}
+use Rattle.std.proofs.Math.ListN.{set, length-append}
 use Rattle.std.specs.List.{slice_get}
-use Rattle.std.proofs.lemmas.Option.{slice_get_within, slice_get_past}
+use Rattle.std.proofs.lemmas.Option.{slice_get_within}
 use Rattle.std.proofs.lemmas.Bool.{cases_eq, cases_lt, cases_Bool, eq-eqb, ne_eqb, eqb-true, and_parts}
 use Rattle.std.proofs.lemmas.Bool.Decides.{nat_tests}
 use Rattle.std.specs.Option.{option_map, OnSome, is_some}
@@ -10,7 +10,7 @@ use Rattle.std.specs.Result.{OnOk}
 use Rattle.mem_pages.specs.declared.page.Page.{Page}
 use Rattle.mem_pages.specs.declared.directory.Table.{Table}
 use Rattle.mem_pages.specs.declared.directory.Directory.{Directory}
-use Rattle.mem_pages.specs.Page.{place_in, kept_in}
+use Rattle.mem_pages.specs.Page.{place_in}
 use Rattle.mem_pages.specs.Directory.{pages_of, page_at, IsWithPage, IsGrown, HasGrown}
 use Rattle.mem_pages.specs.Lending.{with_page, with_table}
 

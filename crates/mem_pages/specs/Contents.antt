@@ -1,5 +1,5 @@
 -- What pages hold.
-use Rattle.std.specs.Prelude.{◌≡◌, ℕ, ◌<◌, Bool, true, false}
+use Rattle.std.specs.Prelude.{ℕ, ◌<◌, Bool}
 use Rattle.memory.specs.Memory.{Memory, forget_below}
 use Rattle.mem_pages.specs.declared.pages.Pages.{Pages}
 use Rattle.mem_pages.specs.Page.{IsOffStack}

@@ -2,7 +2,6 @@ pub mod Regions
 pub mod Page
 pub mod Directory
 pub mod Lending
-pub mod LendingBytes
 pub mod Contents
 pub mod Accesses
 pub mod Ends

@@ -2,7 +2,7 @@
 use Rattle.std.specs.Prelude.{◌≡◌, ℕ, ◌+◌, ◌/◌, ◌<◌, ◌&&◌, Bool, true, false, cond, leb, ltb, length, slice_index_or, List, Option, Some, None}
 use Rattle.std.specs.Option.{option_map}
 use Rattle.x86_values.specs.declared.byte.Byte.{Byte}
-use Rattle.x86_values.specs.declared.byte.Byte.TheVariants.{Known, Unspecified}
+use Rattle.x86_values.specs.declared.byte.Byte.TheVariants.{Unspecified}
 use Rattle.x86_values.specs.declared.word.Word.{Word}
 use Rattle.x86_values.specs.Words.{known_byte}
 use Rattle.memory.specs.Memory.{Place, Memory, AccessKind, Load, Store, allows, byte_of, forgotten}

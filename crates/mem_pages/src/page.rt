@@ -1,13 +1,11 @@
 // One page of 4,096 addresses: the part of it that is mapped, and its bytes once they are kept.
-ghost use Rattle.std.specs.Prelude.{◌≡◌, ℕ, ◌+◌, ◌<◌, ◌≤◌, ◌&&◌, Bool, true, false, cond, leb, ltb, length, slice_index_or, slice_range, OnOk, OnErr, IfSome, Option, Some, None};
+ghost use Rattle.std.specs.Prelude.{◌≡◌, ℕ, ◌+◌, ◌<◌, ◌≤◌, ◌&&◌, Bool, true, false, cond, leb, ltb, length, slice_index_or, OnOk, OnErr, IfSome, Option, Some, None};
 ghost use Rattle.std.specs.Option.{option_map};
 ghost use Rattle.x86_values.specs.declared.byte.Byte.{Byte};
 ghost use Rattle.x86_values.specs.declared.byte.Byte.TheVariants as byte;
 ghost use Rattle.memory.specs.Memory.{put};
 ghost use Rattle.mem_pages.specs.Regions.{unmapped, with_region, forget_between, is_unspecified};
 ghost use Rattle.mem_pages.specs.Page.{maps, place_in, kept_in, shown, seen, KeepsBytes, ShowsBytes, Judges, kind_of_access};
-ghost use Rattle.std.specs.Borrow.{sem};
-ghost use Rattle.mem_pages.specs.LendingBytes.{LendsPart};
 
 use std::alloc::{AllocError, Global};
 use x86_values::Byte;
@@ -193,22 +191,5 @@ impl Page {
             return None;
         }
         Some(&self.bytes[at as usize..(at + count) as usize])
-    }
-
-    /// Whether its bytes are kept.
-    pub fn has_bytes(&self) -> bool
-        ensures { result ≡ leb 4096 (length self.now.bytes.items) }
-    {
-        PAGE as usize <= self.bytes.len()
-    }
-
-    /// The bytes of some places, to be changed.
-    pub fn part_mut(&mut self, at: u32, count: u32) -> &mut [Byte]
-        requires in_page { at + count ≤ 4096 }
-        requires kept { 4096 ≤ length self.old.bytes.items }
-        ensures* writes_back { sem 𝓛 (LendsPart self.entry at result) }
-        ensures value { result.now ≡ slice_range self.old.bytes.items at (at + count) }
-    {
-        self.bytes.slice_mut(at as usize..(at + count) as usize)
     }
 }

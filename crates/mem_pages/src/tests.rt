@@ -10,7 +10,10 @@ fn a_region(rt: HostRuntime) -> Result<(), Fail> {
     assert_eq!(rt; pages.read(8999), Ok(Byte::Known(7)));
     assert_eq!(rt; pages.read(9000), Err(PageFault::NotMapped));
     pages.write(4095, Byte::Known(1)).ok().ok_or("write")?;
-    pages.store(4094, 4, word_of(0x0403_0201)).ok().ok_or("store")?;
+    pages
+        .store(4094, 4, word_of(0x0403_0201))
+        .ok()
+        .ok_or("store")?;
     assert_eq!(rt; pages.read(4095), Ok(Byte::Known(2)));
     let loaded = pages.load(4094, 4).ok_or("load")?;
     assert_eq!(rt; known(loaded), Some(0x0403_0201));
@@ -32,7 +35,10 @@ fn a_stack(rt: HostRuntime) -> Result<(), Fail> {
     pages.forget_below(20480);
     assert_eq!(rt; pages.read(20479), Ok(Byte::Unspecified));
     assert_eq!(rt; pages.read(20481), Ok(Byte::Known(0)));
-    pages.write(16384, Byte::Known(3)).ok().ok_or("write below")?;
+    pages
+        .write(16384, Byte::Known(3))
+        .ok()
+        .ok_or("write below")?;
     assert_eq!(rt; pages.read(20479), Ok(Byte::Unspecified));
     assert_eq!(rt; pages.read(20480), Ok(Byte::Known(0)));
     Ok(())

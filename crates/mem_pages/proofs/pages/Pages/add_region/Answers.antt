@@ -1,4 +1,3 @@
-use Rattle.std.proofs.Common.{arith}
 use Rattle.mem_pages.proofs.pages.Pages.add_region.Goals as goal
 use Rattle.mem_pages.proofs.PageSteps.{on_error}
 use Rattle.mem_pages.proofs.Parts as parts
