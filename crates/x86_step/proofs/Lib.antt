@@ -7,3 +7,6 @@ pub mod Storing
 pub mod Calling
 pub mod Judging
 pub mod Stepping
+pub mod Made
+pub mod Performing
+pub mod FastForms
