@@ -10,3 +10,5 @@ pub mod Stepping
 pub mod Made
 pub mod Performing
 pub mod FastForms
+pub mod OneForms
+pub mod FlowForms
