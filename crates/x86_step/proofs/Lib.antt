@@ -7,3 +7,8 @@ pub mod Storing
 pub mod Calling
 pub mod Judging
 pub mod Stepping
+pub mod Made
+pub mod Performing
+pub mod FastForms
+pub mod OneForms
+pub mod FlowForms

@@ -5,7 +5,10 @@ use Rattle.std.proofs.lemmas.Grind.{get_or-set_at}
 use Rattle.std.proofs.lemmas.Bool.{cases_eq, cond-true, cond-false, eq-eqb, ne_eqb}
 use Rattle.x86_values.specs.declared.word.Word.{Word}
 use Rattle.x86_values.specs.Words.{word_of}
-use Rattle.x86_meaning.specs.Registers.{with_register}
+use Rattle.x86_types.specs.declared.operand.Reg.{Reg}
+use Rattle.x86_types.specs.declared.operand.Reg.TheVariants as reg
+use Rattle.x86_types.specs.Numbers.{number_of_reg}
+use Rattle.x86_meaning.specs.Registers.{Registers, with_register}
 use Rattle.x86_meaning.specs.TransferShapes as shapes
 use Rattle.x86_meaning.specs.TransferShapes.{if_counted}
 use Rattle.x86_step.specs.Steps.{registers_of}
@@ -23,3 +26,22 @@ register_set regs n w h = λ i k. set_at regs n w h k i
 pub counted : (n : ℕ) (t : Option shapes.Transfer) → (n ≡ 0 → ⊥) → if_counted (Some n) t ≡ t
 counted zero t h = absurd (h refl)
 counted (suc n) t h = refl
+
+-- ---- esp after a register was written
+pub esp_written : (w : Word) (regs : Registers) → w ≡ with_register 4 w regs 4
+unfolding with_register
+esp_written w regs = refl
+
+pub esp_stays : (r : Reg) (w : Word) (regs : Registers) → (r ≡ reg.Esp → ⊥) → regs 4 ≡ with_register (number_of_reg r) w regs 4
+unfolding with_register
+esp_stays reg.Eax w regs h = refl
+esp_stays reg.Ecx w regs h = refl
+esp_stays reg.Edx w regs h = refl
+esp_stays reg.Ebx w regs h = refl
+esp_stays reg.Esp w regs h = absurd (h refl)
+esp_stays reg.Ebp w regs h = refl
+esp_stays reg.Esi w regs h = refl
+esp_stays reg.Edi w regs h = refl
+
+pub esp_left : (r : Reg) (w e : Word) (regs : Registers) → (r ≡ reg.Esp → ⊥) → e ≡ with_register (number_of_reg r) w (with_register 4 e regs) 4
+esp_left r w e regs h = esp_written e regs ∙ esp_stays r w (with_register 4 e regs) h

@@ -1,9 +1,11 @@
 -- The answer of the code is that of the step.
-use Rattle.std.proofs.Common.{◌≡◌, ℕ, [], refl, Option, Result, Ok, Err, ◌∙◌, false}
+use Rattle.std.proofs.Common.{◌≡◌, ℕ, [], Bool, true, refl, Option, Result, Ok, Err, ◌∙◌, false}
 use Rattle.std.specs.declared.alloc.AllocError.{AllocError}
 use Rattle.outside.specs.Environment.{Environment}
 use Rattle.traces.specs.Trace.{Halt}
 use Rattle.memory.specs.Memory.{Memory}
+use Rattle.mem_pages.specs.declared.pages.Pages.{Pages}
+use Rattle.mem_pages.specs.Accesses.{KeepsPages}
 use Rattle.x86_types.specs.declared.instr.Instr.{Instr}
 use Rattle.x86_types.specs.declared.instr.Instr.TheVariants.{Int80}
 use Rattle.x86_meaning.specs.declared.state.Cpu.{Cpu}
@@ -17,7 +19,8 @@ use Rattle.x86_step.specs.declared.stepped.Stepped.{Stepped}
 use Rattle.x86_step.specs.declared.stepped.Stepped.TheVariants as stepped
 use Rattle.x86_step.specs.Computed.{way_of}
 use Rattle.x86_step.specs.Judged.{effect_read, effect_seen}
-use Rattle.x86_step.specs.Steps.{state_of, Steps, StepsOrStays}
+use Rattle.x86_step.specs.Steps.{state_of, Stays, Steps, StepsOrStays}
+use Rattle.x86_step.specs.Making.{FastOrStays}
 use Rattle.x86_step.specs.Finishing.{MovesOrStays, Moves, is_call, rest_of_step, stepped_by}
 use Rattle.x86_step.proofs.Calling.{EffectCallsNone, effect_calls_none}
 
@@ -44,3 +47,18 @@ stops_by i len stop.Unspecified c m h = record { halts = h; cpu = refl; memory =
 
 pub stops : (i : Instr) (len : ℕ) (x : Stop) (answer : Stepped) (c : Cpu) (m : Memory) → answer ≡ stepped_by x → ((left : Environment) → step i len (state_of c m left) ≡ Halt [] (end_of x)) → Steps i len answer c m c m
 stops i len x answer c m e h = rw e (stops_by i len x c m h)
+
+-- ---- a step in place, or else the whole way
+pub keeps_then : (p q r : Pages) → KeepsPages p q → KeepsPages q r → KeepsPages p r
+keeps_then p q r h k = record { kept = λ a g. k.kept a (h.kept a g) }
+
+pub made_in_place : (i : Instr) (len : ℕ) (b : Bool) (c d : Cpu) (m n : Memory) → b ≡ true → FastOrStays i len b c m d n → Steps i len stepped.Next c m d n
+made_in_place i len true c d m n e h = h
+made_in_place i len false c d m n e h = cc
+
+same_start : (i : Instr) (len : ℕ) (r : Result Stepped AllocError) (c e d : Cpu) (m l n : Memory) → Stays c m e l → StepsOrStays i len r e l d n → StepsOrStays i len r c m d n
+same_start i len r c e d m l n h k = rw (h.cpu, h.memory) at k
+
+pub steps_after : (i : Instr) (len : ℕ) (b : Bool) (r : Result Stepped AllocError) (c e d : Cpu) (m l n : Memory) → b ≡ false → FastOrStays i len b c m e l → StepsOrStays i len r e l d n → StepsOrStays i len r c m d n
+steps_after i len false r c e d m l n f h k = same_start i len r c e d m l n h k
+steps_after i len true r c e d m l n f h k = cc

@@ -97,8 +97,9 @@ fn load(mem: &Pages, at: u32, size: Size) -> Option<Word>
     }
 }
 
-// The value of an operand; `None` where its load isn't allowed.
-fn value(operand: Operand, cpu: &Cpu, mem: &Pages) -> Option<Word>
+/// The value of an operand; `None` where its load isn't allowed.
+#[inline]
+pub(crate) fn value(operand: Operand, cpu: &Cpu, mem: &Pages) -> Option<Word>
     ensures { result ≡ judged.value_read (bytes_of operand.size) (location_of operand.location) (registers_of cpu.now.regs) (memory_in mem.now) }
 {
     match operand.location {

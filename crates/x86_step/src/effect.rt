@@ -33,9 +33,9 @@ pub(crate) struct Effect {
     pub way: Way,
 }
 
-// A word whose lowest bytes are those of another.
+/// A word whose lowest bytes are those of another.
 #[inline]
-fn with_lowest(size: Size, word: Word, old: Word) -> Word
+pub(crate) fn with_lowest(size: Size, word: Word, old: Word) -> Word
     ensures { result ≡ registers.with_bytes 0 (take (bytes_of size) (word_list word)) old }
 {
     match size {
@@ -56,9 +56,9 @@ fn with_lowest(size: Size, word: Word, old: Word) -> Word
     }
 }
 
-// A word whose bytes from the second on are the lowest of another.
+/// A word whose bytes from the second on are the lowest of another.
 #[inline]
-fn with_second(size: Size, word: Word, old: Word) -> Word
+pub(crate) fn with_second(size: Size, word: Word, old: Word) -> Word
     ensures { result ≡ registers.with_bytes 1 (take (bytes_of size) (word_list word)) old }
 {
     match size {

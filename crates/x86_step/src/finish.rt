@@ -40,7 +40,8 @@ fn can_store(stored: Option<Stored>, mem: &Pages) -> bool
 
 // The lowest bytes of a word are stored from an address on.
 #[tactic(auto, using(crate::proofs::Storing::no_bytes, crate::proofs::Storing::keeps_itself))]
-fn store_word(mem: &mut Pages, at: u32, size: Size, word: Word) -> Result<(), PageFault>
+#[inline]
+pub(crate) fn store_word(mem: &mut Pages, at: u32, size: Size, word: Word) -> Result<(), PageFault>
     ensures stores { Stores at (bytes_of size) word result mem.old mem.new }
     ensures keeps { KeepsPages mem.old mem.new }
 {
@@ -65,7 +66,8 @@ fn store(stored: Option<Stored>, mem: &mut Pages) -> Result<(), PageFault>
 }
 
 // The address of the next instruction, behind one of `len` bytes.
-fn eip_after(way: Way, eip: u32, len: u8) -> u32
+#[inline]
+pub(crate) fn eip_after(way: Way, eip: u32, len: u8) -> u32
     ensures { result ≡ judged.eip_after (way_of way) eip (eip + len) }
 {
     let next = eip as u64 + len as u64;

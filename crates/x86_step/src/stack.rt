@@ -23,9 +23,9 @@ fn up(at: u32) -> u32
     ((at as u64 + 4) % 0x1_0000_0000) as u32
 }
 
-// An address that is lowered by 4, modulo 2^32.
+/// An address that is lowered by 4, modulo 2^32.
 #[inline]
-fn down(at: u32) -> u32
+pub(crate) fn down(at: u32) -> u32
     ensures { result ≡ spec.down 4 at }
 {
     ((at as u64 + 0xFFFF_FFFC) % 0x1_0000_0000) as u32

@@ -8,6 +8,7 @@ ghost use Rattle.x86_step.specs.Finishing.{stepped_by};
 ghost use Rattle.x86_step.specs.Steps.{StepsOrStays};
 
 use crate::Stepped;
+use crate::fast::fast;
 use crate::finish::finish;
 use crate::judge::effect;
 use mem_pages::Pages;
@@ -26,8 +27,9 @@ fn stopped(stop: Stop) -> Stepped
     }
 }
 
-// The address behind an instruction of `len` bytes.
-fn behind(eip: u32, len: u8) -> u32
+/// The address behind an instruction of `len` bytes.
+#[inline]
+pub(crate) fn behind(eip: u32, len: u8) -> u32
     ensures { result ≡ wrapped (eip + len) }
 {
     ((eip as u64 + len as u64) % 0x1_0000_0000) as u32
@@ -43,6 +45,25 @@ fn step_whole(instr: &Instr, len: u8, cpu: &mut Cpu, mem: &mut Pages) -> Result<
     match effect(instr, behind(cpu.eip, len), cpu, mem) {
         Err(stop) => Ok(stopped(stop)),
         Ok(effect) => finish(&effect, len, cpu, mem),
+    }
+}
+
+// So it does: in place where it can.
+#[tactic(auto, using(crate::proofs::Stepping::keeps_then))]
+fn step_plain(
+    instr: &Instr,
+    len: u8,
+    cpu: &mut Cpu,
+    mem: &mut Pages,
+) -> Result<Stepped, AllocError>
+    requires no_call { instr.now ≢ variants.Int80 }
+    ensures steps { StepsOrStays instr.now len result cpu.old (memory_in mem.old) cpu.new (memory_in mem.new) }
+    ensures keeps { KeepsPages mem.old mem.new }
+{
+    if fast(instr, len, cpu, mem) {
+        Ok(Stepped::Next)
+    } else {
+        step_whole(instr, len, cpu, mem)
     }
 }
 
@@ -62,6 +83,6 @@ pub fn step_one(
             cpu.eip = behind(cpu.eip, len);
             Ok(Stepped::Call)
         }
-        _ => step_whole(instr, len, cpu, mem),
+        _ => step_plain(instr, len, cpu, mem),
     }
 }

@@ -21,8 +21,9 @@ use x86_meaning::Cpu;
 use x86_types::{Instr, Reg, Width};
 use x86_values::known;
 
-// Where a register field stands.
-fn in_field(width: Width, reg: Reg) -> Location
+/// Where a register field stands.
+#[inline]
+pub(crate) fn in_field(width: Width, reg: Reg) -> Location
     ensures { location_of result ≡ operands.field machine_naming width reg }
 {
     Location::Register(field(width, reg))
