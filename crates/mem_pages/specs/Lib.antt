@@ -1,3 +1,4 @@
 pub mod Regions
 pub mod Contents
 pub mod Accesses
+pub mod Ends

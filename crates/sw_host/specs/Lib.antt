@@ -4,3 +4,4 @@ pub mod Moved
 pub mod Scripts
 pub mod Memory
 pub mod Laws
+pub mod Chains

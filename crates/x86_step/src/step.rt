@@ -20,6 +20,9 @@ pub fn step_one(
     ensures steps { StepsOrStays instr.now len result cpu.old (memory_in mem.old) cpu.new (memory_in mem.new) }
     ensures keeps { KeepsPages mem.old mem.new }
 {
-    let _ = (instr, len, cpu, mem);
+    let _ = len;
+    let _ = instr;
+    let _ = &cpu.eip;
+    let _ = &mem;
     Err(AllocError)
 }

@@ -1,0 +1,16 @@
+-- The ends of runs, as a program has them.
+use Rattle.std.specs.Prelude.{Option, Some, None}
+use Rattle.traces.specs.Trace.{End}
+use Rattle.traces.specs.Trace as trace
+use Rattle.mem_pages.specs.declared.end.RunEnd.{RunEnd}
+use Rattle.mem_pages.specs.declared.end.RunEnd.TheVariants as run
+
+-- the end of a run that has ended; `Spent` says that it hasn't
+abbrev pub end_of : RunEnd → Option End
+end_of (run.Exited status) = Some (trace.Exited status)
+end_of run.MemoryFault = Some trace.MemoryFault
+end_of run.DivideFault = Some trace.DivideFault
+end_of run.Outside = Some trace.Outside
+end_of (run.OtherCall number) = Some (trace.OtherCall number)
+end_of run.Unspecified = Some trace.Unspecified
+end_of run.Spent = None
