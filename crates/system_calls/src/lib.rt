@@ -1,13 +1,8 @@
-//! The system calls that a program makes, over its pages and a host.
+//! The system calls that a program makes: a stub with their types.
 #![tactic(auto)]
 
-mod call;
 mod made;
-mod read;
 mod request;
-mod result;
-mod write;
 
-pub use call::make_call;
 pub use made::Made;
 pub use request::CallRequest;
