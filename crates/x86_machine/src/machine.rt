@@ -1,4 +1,5 @@
 // A machine: a stub that is never started.
+ghost use Rattle.std.specs.Prelude.{◌≤◌};
 
 use image::Image;
 use mem_pages::{Pages, RunEnd};
@@ -13,11 +14,11 @@ pub struct Machine {
     pages: Pages,
     steps: u64,
     ended: Option<RunEnd>,
-    ghost never: { ⊥ },
+    ghost few: { steps ≤ 18446744073709551615 },
 }
 
 impl Machine {
-    ghost use Rattle.std.specs.Prelude.{◌≡◌, ◌≤◌, IfOk};
+    ghost use Rattle.std.specs.Prelude.{◌≡◌, IfOk};
     ghost use Rattle.sw_host.specs.Told.{Tells};
     ghost use Rattle.x86_meaning.specs.Run.{IsStart};
     ghost use Rattle.x86_machine.specs.Standing.{StandsAtStart, ended_in, steps_in};
@@ -41,7 +42,10 @@ impl Machine {
         ensures runs { Tells (H.told host.old) (H.told host.new) (RunsFrom (ended_in self.old) budget result self.old self.new) }
         ensures faults { H.faults host.old ≤ H.faults host.new }
     {
-        Err(AllocError)
+        match self.ended {
+            Some(end) => Ok(end),
+            None => Err(AllocError),
+        }
     }
 
     /// How many steps it has made.
