@@ -1,7 +1,8 @@
-//! The program: the top call over the files, the standard error and the words of its process.
+//! The program: the top call over the files, the standard streams and the words of its process.
 #![tactic(auto)]
 
 mod real_host;
+mod streams;
 mod transfer;
 
 ghost use Rattle.std.specs.Prelude.{◌≡◌, ◌≢◌};
@@ -42,7 +43,7 @@ fn main(rt: HostRuntime) -> ExitCode {
         Ok(words) => words,
         Err(error) => return ExitCode::from(status_of(error)),
     };
-    let mut host = RealHost::new(&rt);
+    let mut host = RealHost::new(&rt, rt.stdin(), rt.stdout(), rt.stderr());
     let end = sw(rt.alloc(), words.as_slice(), &mut host);
     ExitCode::from(status(&end))
 }

@@ -1,29 +1,44 @@
-// The host of the process: its files and its standard error. It tells nothing of them.
-ghost use Rattle.std.specs.Prelude.{◌≡◌, MatchResult, IsErrAnd};
+// The host of the process: its files and its standard streams. It tells nothing of them.
+ghost use Rattle.std.specs.Prelude.{◌≡◌, ◌≢◌, ◌≤◌, length, IfOk, MatchResult, IsErrAnd};
 ghost use Rattle.sw_host.specs.Told.{HasCause};
 ghost use Rattle.sw_cli.specs.Counts.{CountsErr, IsFaultOf};
 
+use crate::streams::{put_to, take_from};
 use crate::transfer::{read_front, synced, write_whole};
-use std::alloc::Global;
+use outside::Answer;
+use std::alloc::{AllocError, Global};
 use std::fs::OpenFile;
-use std::io::ErrorKind;
+use std::io::{ErrorKind, Read, Write};
 use std::rt::Files;
 use std::{fs, io};
 use sw_host::{Host, HostFault};
 
-/// The files and the standard error of a runtime, and how many calls of them failed.
+/// The error number of a put to a file descriptor that is neither 1 nor 2 (Linux: EBADF).
+const NO_DESCRIPTOR: u32 = 9;
+
+/// The files of a runtime and the standard streams, and how many loads, stores and lines failed. Nothing is held back: each put is
+/// one write.
 #[derive(Drop)]
-pub struct RealHost<R> {
+pub struct RealHost<R, I, O, E> {
     rt: R,
+    input: I,
+    output: O,
+    errors: E,
     faults: u64,
 }
 
-impl<R: Files + Eprint> RealHost<R> {
+impl<R: Files + Eprint, I: Read, O: Write, E: Write> RealHost<R, I, O, E> {
     /// A host none of whose calls failed so far.
-    pub fn new(rt: R) -> RealHost<R>
+    pub fn new(rt: R, input: I, output: O, errors: E) -> RealHost<R, I, O, E>
         ensures { result.faults ≡ 0 }
     {
-        RealHost { rt, faults: 0 }
+        RealHost {
+            rt,
+            input,
+            output,
+            errors,
+            faults: 0,
+        }
     }
 
     // What a call answers; an error is counted, up to the last number.
@@ -61,11 +76,12 @@ impl<R: Files + Eprint> RealHost<R> {
     }
 }
 
-impl<R: Files + Eprint> Host for RealHost<R> {
+impl<R: Files + Eprint, I: Read, O: Write, E: Write> Host for RealHost<R, I, O, E> {
     ghost use Rattle.std.specs.Prelude.{None};
     ghost use Rattle.sw_host.specs.Told.{Tells, HasCause};
-    ghost use Rattle.sw_host.specs.Calls.{Loads, Stores, Lines};
+    ghost use Rattle.sw_host.specs.Calls.{Loads, Stores, Takes, Puts, Lines, IsAnswerFor};
     ghost use Rattle.sw_cli.specs.Counts.{CountsErr};
+    ghost use Rattle.sw_cli.specs.Streams.{Reads, Writes};
 
     ghost told = { λ _. None };
 
@@ -87,6 +103,35 @@ impl<R: Files + Eprint> Host for RealHost<R> {
     {
         let done = self.write_file(name, bytes);
         self.answer(done)
+    }
+
+    fn take(&mut self, buf: &mut [u8]) -> Result<Answer, AllocError>
+        ensures told { Tells None None (Takes buf.old buf.new result) }
+        ensures answer { IfOk result (IsAnswerFor (length buf.old)) }
+        ensures faults { self.old.faults ≤ self.new.faults }
+        ensures uncounted { self.new.faults ≡ self.old.faults }
+        ensures reads { IfOk result (λ answer. Reads (I.remaining self.old.input) (I.remaining self.new.input) answer buf.new) }
+    {
+        Ok(take_from(&mut self.input, buf))
+    }
+
+    fn put(&mut self, fd: u32, bytes: &[u8]) -> Result<Answer, AllocError>
+        ensures told { Tells None None (Puts fd bytes.now result) }
+        ensures answer { IfOk result (IsAnswerFor (length bytes.now)) }
+        ensures faults { self.old.faults ≤ self.new.faults }
+        ensures uncounted { self.new.faults ≡ self.old.faults }
+        ensures output { fd ≡ 1 → IfOk result (λ answer.
+            Writes (O.contents self.old.output) (O.contents self.new.output) answer bytes.now) }
+        ensures errors { fd ≡ 2 → IfOk result (λ answer.
+            Writes (E.contents self.old.errors) (E.contents self.new.errors) answer bytes.now) }
+        ensures elsewhere { fd ≢ 1 → fd ≢ 2 → result ≡ Ok (Answer.Fail 9) }
+    {
+        let answer = match fd {
+            1 => put_to(&mut self.output, bytes),
+            2 => put_to(&mut self.errors, bytes),
+            _ => Answer::Fail(NO_DESCRIPTOR),
+        };
+        Ok(answer)
     }
 
     fn line(&mut self, text: &str) -> Result<(), HostFault>

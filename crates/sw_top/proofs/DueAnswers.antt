@@ -15,7 +15,7 @@ use Rattle.sw_host.specs.Calls.{called, fails, loaded, with_file}
 use Rattle.sw_host.specs.Laws.{FailsAlike}
 use Rattle.sw_top.specs.declared.command.Names.{Names}
 use Rattle.sw_top.specs.declared.end.End.{End}
-use Rattle.sw_top.specs.declared.end.End.TheVariants.{Done, Usage, TooLong, Refused, Host, Memory}
+use Rattle.sw_top.specs.declared.end.End.TheVariants.{Done, Ran, Usage, TooLong, Refused, Host, Memory}
 use Rattle.sw_top.specs.Rewriting.{input, limit, greatest_size, stored_out, IsInput, IsOverlong, IsLoaded, Fails, load_fails, out_fails, map_fails, PerformsRewrite}
 use Rattle.sw_top.specs.RewriteOutcome.{IsGiven, IsOrMemory, BothStore, OneStoreFails, AnswersRewrite}
 
@@ -116,6 +116,7 @@ of_fault alike names a b (map_fails s e) = is_unstored refl s.out s.is_loaded (i
 found : FailsAlike → (names : Names) (end : End) (a b : Told) → PerformsRewrite names end a b → Found names a end
 found alike names Done a b f =
     is_done refl f.out f.is_loaded (record { out = f.first_store; map = sym (third alike names f.out a) ∙ f.second_store })
+found alike names (Ran e) a b p = absurd p
 found alike names Usage a b p = absurd p
 found alike names TooLong a b p = is_long refl p.overlong
 found alike names (Refused r) a b p = is_refused p.file r refl p.is_input p.refused

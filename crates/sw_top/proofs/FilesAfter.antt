@@ -7,7 +7,7 @@ use Rattle.sw_host.specs.Told.{Told, last_count}
 use Rattle.sw_host.specs.Calls.{called, fails, with_file, with_line, Lines}
 use Rattle.sw_top.specs.declared.command.Names.{Names}
 use Rattle.sw_top.specs.declared.end.End.{End}
-use Rattle.sw_top.specs.declared.end.End.TheVariants.{Done, Usage, TooLong, Refused, Host, Memory as NoMemory}
+use Rattle.sw_top.specs.declared.end.End.TheVariants.{Done, Ran, Usage, TooLong, Refused, Host, Memory as NoMemory}
 use Rattle.sw_top.specs.Ends.{line_of}
 use Rattle.sw_top.specs.Rewriting.{SpoilsOut, SpoilsMap, Finishes, Fails, load_fails, out_fails, map_fails, WantsMemory, before_stores as wants_before, in_out as wants_out, in_map as wants_map, PerformsRewrite}
 use Rattle.sw_top.specs.Serves.{SaysLine}
@@ -16,13 +16,13 @@ use Rattle.sw_top.specs.Outcome.{LineAnswered, LineAfter}
 use Rattle.sw_top.proofs.StoredFiles.{FileLaws, has_map, has_out, keeps}
 
 -- one more call, up to the last number
-abbrev next : ℕ → ℕ
+abbrev pub next : ℕ → ℕ
 next n = min (n + 1) last_count
 
-once : (n m : ℕ) → m ≡ next n → n < 2 ^ 63 → m ≡ n + 1
+pub once : (n m : ℕ) → m ≡ next n → n < 2 ^ 63 → m ≡ n + 1
 once n m e h = omega (arith, e, h)
 
-twice : (n m : ℕ) → m ≡ next (next n) → n < 2 ^ 63 → m ≡ n + 2
+pub twice : (n m : ℕ) → m ≡ next (next n) → n < 2 ^ 63 → m ≡ n + 2
 twice n m e h = omega (arith, e, h)
 
 three_times : (n m : ℕ) → m ≡ next (next (next n)) → n < 2 ^ 63 → m ≡ n + 3
@@ -32,20 +32,23 @@ four_times : (n m : ℕ) → m ≡ next (next (next (next n))) → n < 2 ^ 63 �
 four_times n m e h = omega (arith, e, h)
 
 -- the last call is a line
-record AddsLine (text : List ℕ) (m b : Told) : Type 0 where
-  files : b.files ≡ m.files
-  calls : b.calls ≡ next m.calls
-  answer : Result (Unit {0}) HostFault
-  lines : LineAnswered text answer m.lines b
+pub record AddsLine (text : List ℕ) (m b : Told) : Type 0 where
+  pub files : b.files ≡ m.files
+  pub calls : b.calls ≡ next m.calls
+  pub left : b.left ≡ m.left
+  pub given : b.given ≡ m.given
+  pub moved : b.moved ≡ m.moved
+  pub answer : Result (Unit {0}) HostFault
+  pub lines : LineAnswered text answer m.lines b
 
-adds_line : (text : List ℕ) (answer : Result (Unit {0}) HostFault) (m b : Told) → Lines text answer m b → AddsLine text m b
+pub adds_line : (text : List ℕ) (answer : Result (Unit {0}) HostFault) (m b : Told) → Lines text answer m b → AddsLine text m b
 unfolding called with_line
 adds_line text (Ok v) m b p =
-    record { files = ap (λ t. t.files) p.0; calls = ap (λ t. t.calls) p.0; answer = Ok v; lines = (ap (λ t. t.lines) p.0, subst (λ t. fails t ≡ false) (sym p.0) p.1) }
+    record { files = ap (λ t. t.files) p.0; calls = ap (λ t. t.calls) p.0; left = ap (λ t. t.left) p.0; given = ap (λ t. t.given) p.0; moved = ap (λ t. t.moved) p.0; answer = Ok v; lines = (ap (λ t. t.lines) p.0, subst (λ t. fails t ≡ false) (sym p.0) p.1) }
 adds_line text (Err Failed) m b p =
-    record { files = ap (λ t. t.files) p.0; calls = ap (λ t. t.calls) p.0; answer = Err Failed; lines = (ap (λ t. t.lines) p.0, subst (λ t. fails t ≡ true) (sym p.0) p.1) }
+    record { files = ap (λ t. t.files) p.0; calls = ap (λ t. t.calls) p.0; left = ap (λ t. t.left) p.0; given = ap (λ t. t.given) p.0; moved = ap (λ t. t.moved) p.0; answer = Err Failed; lines = (ap (λ t. t.lines) p.0, subst (λ t. fails t ≡ true) (sym p.0) p.1) }
 adds_line text (Err Memory) m b p =
-    record { files = ap (λ t. t.files) p; calls = ap (λ t. t.calls) p; answer = Err Memory; lines = ap (λ t. t.lines) p }
+    record { files = ap (λ t. t.files) p; calls = ap (λ t. t.calls) p; left = ap (λ t. t.left) p; given = ap (λ t. t.given) p; moved = ap (λ t. t.moved) p; answer = Err Memory; lines = ap (λ t. t.lines) p }
 
 -- words without a command: the line alone
 pub line_alone : (text : List ℕ) (answer : Result (Unit {0}) HostFault) (a b : Told) → Lines text answer a b → KeepsFiles 1 a b × LineAfter (Some text) a b
@@ -54,7 +57,7 @@ line_alone text answer a b p =
     (record { calls = once a.calls b.calls line.calls; files = line.files }, (line.answer, line.lines))
 
 module _ (text : List ℕ) (a m b : Told) (line : AddsLine text m b) where
-  lines_from : m.lines ≡ a.lines → LineAfter (Some text) a b
+  pub lines_from : m.lines ≡ a.lines → LineAfter (Some text) a b
   lines_from e = (line.answer, subst (λ ls. LineAnswered text line.answer ls b) e line.lines)
 
   calls_from : (n : ℕ) → m.calls ≡ n → b.calls ≡ next n
@@ -65,19 +68,19 @@ module _ (text : List ℕ) (a m b : Told) (line : AddsLine text m b) where
 
 -- the load alone
 module _ (a m : Told) (after : m ≡ called a) where
-  loaded_calls : m.calls ≡ next a.calls
+  pub loaded_calls : m.calls ≡ next a.calls
   unfolding called
   loaded_calls = ap (λ t. t.calls) after
 
-  loaded_files : m.files ≡ a.files
+  pub loaded_files : m.files ≡ a.files
   unfolding called
   loaded_files = ap (λ t. t.files) after
 
-  loaded_lines : m.lines ≡ a.lines
+  pub loaded_lines : m.lines ≡ a.lines
   unfolding called
   loaded_lines = ap (λ t. t.lines) after
 
-  keeps_files : (text : List ℕ) (b : Told) → AddsLine text m b → KeepsFiles 2 a b
+  pub keeps_files : (text : List ℕ) (b : Told) → AddsLine text m b → KeepsFiles 2 a b
   keeps_files text b line = record { calls = twice a.calls b.calls (calls_from text a m b line (next a.calls) loaded_calls); files = line.files ∙ loaded_files }
 
 -- the store of OUT
@@ -192,6 +195,7 @@ module _ (laws : FileLaws) (names : Names) (apart : names.to ≢ names.map) (a m
   leaves Done p says =
       let f : Finishes names a b = subst (λ t. Finishes names a t) (sym says) p in
       (has_both laws names a b f apart, both_lines laws names a b f)
+  leaves (Ran e) p says = absurd p
   leaves Usage p says = absurd p
   leaves TooLong p says = after_load _ (adds_line _ says.0 m b says.1) p.after
   leaves (Refused r) p says = after_load _ (adds_line _ says.0 m b says.1) p.after

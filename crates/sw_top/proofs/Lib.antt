@@ -1,7 +1,13 @@
-pub mod Chain
 pub mod TellLemmas
 pub mod StoredFiles
 pub mod FilesAfter
 pub mod DueAnswers
+pub mod RunOutcomes
 pub mod Outcomes
 pub mod RowLemmas
+pub mod StackLemmas
+pub mod StackSizes
+pub mod NumberLemmas
+pub mod LoadLemmas
+pub mod RunLemmas
+pub mod RunRowLemmas

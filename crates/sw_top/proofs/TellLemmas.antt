@@ -37,7 +37,7 @@ had_file false None n file e h = cc
 had_file false (Some full) n file e h = let same : take n full ≡ file = cc in ap Some (whole n file full same h)
 
 -- a load that gave fewer bytes than were asked for gave the file
-loaded_whole : (a : Told) (name : List ℕ) (n : ℕ) (file : List ℕ) → loaded (called a) name n ≡ Some file → length file < n → get a.files name ≡ Some file
+pub loaded_whole : (a : Told) (name : List ℕ) (n : ℕ) (file : List ℕ) → loaded (called a) name n ≡ Some file → length file < n → get a.files name ≡ Some file
 unfolding loaded called
 loaded_whole a name n file e h = had_file (fails (called a)) (get a.files name) n file e h
 
@@ -55,7 +55,7 @@ had_longer false (Some full) n m front e next h =
     let both = longer n m front full same next h in
     (both.0, full, refl, both.1)
 
-loaded_longer : (a : Told) (name : List ℕ) (n m : ℕ) (front : List ℕ) → loaded (called a) name n ≡ Some front → n ≡ m + 1 → m < length front → (length front ≡ n) × (full : List ℕ) × (get a.files name ≡ Some full) × (m < length full)
+pub loaded_longer : (a : Told) (name : List ℕ) (n m : ℕ) (front : List ℕ) → loaded (called a) name n ≡ Some front → n ≡ m + 1 → m < length front → (length front ≡ n) × (full : List ℕ) × (get a.files name ≡ Some full) × (m < length full)
 unfolding loaded called
 loaded_longer a name n m front e next h = had_longer (fails (called a)) (get a.files name) n m front e next h
 

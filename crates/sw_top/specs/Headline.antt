@@ -1,14 +1,16 @@
--- What a command that is done means, in terms of files and their runs.
+-- What a command that is done, or has run, means, in terms of files and their runs.
 use Rattle.std.specs.Prelude.{◌≡◌, ◌≢◌, ℕ, List, Option, Some, None, Ok}
 use Rattle.std.specs.FinMap.{get}
 use Rattle.image.specs.declared.image.Image.{Image}
 use Rattle.image.specs.declared.room.Room.TheVariants.{Source, Any}
 use Rattle.elf_image.specs.Image.{image_of}
 use Rattle.rewrite_core.specs.Agreement.{RunsAgree}
+use Rattle.mem_pages.specs.declared.end.RunEnd.{RunEnd}
 use Rattle.sw_host.specs.Told.{Told}
 use Rattle.sw_top.specs.declared.command.Names.{Names}
+use Rattle.sw_top.specs.RunOutcome.{HasRun}
 use Rattle.sw_top.specs.declared.command.Command.{Command}
-use Rattle.sw_top.specs.declared.command.Command.TheVariants.{Rewrite}
+use Rattle.sw_top.specs.declared.command.Command.TheVariants.{Rewrite, Run}
 use Rattle.sw_top.specs.Rewriting.{map_text}
 
 -- The file IN before the call and the file OUT after it are read as images, in the room of files that are rewritten and in
@@ -26,7 +28,14 @@ pub record Rewrote (names : Names) (a b : Told) : Type 0 where
   pub accepted : image_of out Any ≡ Ok new
   pub agree : RunsAgree old new
 
--- What Done means, by the command. Words that spell no command are never done.
+-- What Done means, by the command. Words that spell no command are never done, and a run has an end of its own.
 abbrev pub AfterDone : Option Command → Told → Told → Type 0
 AfterDone None a b = ⊥
 AfterDone (Some (Rewrite names)) a b = Rewrote names a b
+AfterDone (Some (Run running)) a b = ⊥
+
+-- What Ran means, by the command. Only a run is answered so.
+abbrev pub AfterRan : Option Command → RunEnd → Told → Told → Type 0
+AfterRan None end a b = ⊥
+AfterRan (Some (Rewrite names)) end a b = ⊥
+AfterRan (Some (Run running)) end a b = HasRun running end a b

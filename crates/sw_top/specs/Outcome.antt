@@ -5,22 +5,25 @@ use Rattle.sw_host.specs.declared.host.HostFault.TheVariants.{Failed, Memory}
 use Rattle.sw_host.specs.Told.{Told}
 use Rattle.sw_host.specs.Calls.{fails}
 use Rattle.sw_top.specs.declared.command.Command.{Command}
-use Rattle.sw_top.specs.declared.command.Command.TheVariants.{Rewrite}
+use Rattle.sw_top.specs.declared.command.Command.TheVariants.{Rewrite, Run}
 use Rattle.sw_top.specs.declared.end.End.{End}
 use Rattle.sw_top.specs.declared.end.End.TheVariants.{Usage}
 use Rattle.sw_top.specs.Ends.{line_of}
 use Rattle.sw_top.specs.RewriteOutcome.{AnswersRewrite, RewriteLeaves, KeepsFiles}
+use Rattle.sw_top.specs.RunOutcome.{AnswersRun, RunLeaves}
 
 -- Which answer comes. Want of memory can stand in the place of any answer but Usage. `rose` says that the host's count of
 -- faults has risen in the call.
 abbrev pub AnswerIsDue : Option Command → End → Type 0 → Told → Type 0
 AnswerIsDue None end rose a = end ≡ Usage
 AnswerIsDue (Some (Rewrite names)) end rose a = AnswersRewrite names end rose a
+AnswerIsDue (Some (Run running)) end rose a = AnswersRun running end a
 
 -- The files after that answer, and how many calls were made.
 abbrev pub FilesAfter : Option Command → End → Told → Told → Type 0
 FilesAfter None end a b = KeepsFiles 1 a b
 FilesAfter (Some (Rewrite names)) end a b = RewriteLeaves names end a b
+FilesAfter (Some (Run running)) end a b = RunLeaves running end a b
 
 -- The lines after the call of a line, by what it answers; b is the host after it, and the line its last call. Ok: the line
 -- was added, and the call wasn't to fail. Failed: the lines stayed, and the call was to fail. Memory: the lines stayed.

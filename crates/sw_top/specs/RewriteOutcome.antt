@@ -8,7 +8,7 @@ use Rattle.sw_host.specs.Told.{Told}
 use Rattle.sw_host.specs.Calls.{called, fails}
 use Rattle.sw_top.specs.declared.command.Names.{Names}
 use Rattle.sw_top.specs.declared.end.End.{End}
-use Rattle.sw_top.specs.declared.end.End.TheVariants.{Done, Usage, TooLong, Refused, Host, Memory}
+use Rattle.sw_top.specs.declared.end.End.TheVariants.{Done, Ran, Usage, TooLong, Refused, Host, Memory}
 use Rattle.sw_top.specs.Rewriting.{greatest_size, map_text}
 
 -- IN is that file, and the next call, its load, isn't to fail.
@@ -84,9 +84,10 @@ pub data AfterFault (names : Names) (a b : Told) : Type 0 where
   in_out : LosesOut names a b → AfterFault names a b
   in_map : LosesMap names a b → AfterFault names a b
 
--- The files after a rewriting with this answer, and how many calls were made. No rewriting answers Usage.
+-- The files after a rewriting with this answer, and how many calls were made. No rewriting answers Usage or Ran.
 abbrev pub RewriteLeaves : Names → End → Told → Told → Type 0
 RewriteLeaves names Done a b = HasBoth names a b
+RewriteLeaves names (Ran end) a b = ⊥
 RewriteLeaves names TooLong a b = KeepsFiles 2 a b
 RewriteLeaves names (Refused r) a b = KeepsFiles 2 a b
 RewriteLeaves names Host a b = AfterFault names a b

@@ -7,7 +7,7 @@ use Rattle.sw_host.specs.Told.{Told}
 use Rattle.sw_host.specs.Calls.{called, fails, loaded, with_file, Spoils}
 use Rattle.sw_top.specs.declared.command.Names.{Names}
 use Rattle.sw_top.specs.declared.end.End.{End}
-use Rattle.sw_top.specs.declared.end.End.TheVariants.{Done, Usage, TooLong, Refused, Host, Memory}
+use Rattle.sw_top.specs.declared.end.End.TheVariants.{Done, Ran, Usage, TooLong, Refused, Host, Memory}
 
 -- The most bytes of a file that is rewritten: 16 MiB. (own)
 abbrev pub greatest_size : ℕ
@@ -99,9 +99,10 @@ pub data WantsMemory (names : Names) (a b : Told) : Type 0 where
   in_out : SpoilsOut names a b → WantsMemory names a b
   in_map : SpoilsMap names a b → WantsMemory names a b
 
--- The calls of a rewriting that ends so. No rewriting ends with Usage.
+-- The calls of a rewriting that ends so. No rewriting ends with Usage or Ran.
 abbrev pub PerformsRewrite : Names → End → Told → Told → Type 0
 PerformsRewrite names Done a b = Finishes names a b
+PerformsRewrite names (Ran end) a b = ⊥
 PerformsRewrite names TooLong a b = PassesLimit names a b
 PerformsRewrite names (Refused r) a b = Refuses names r a b
 PerformsRewrite names Host a b = Fails names a b

@@ -1,17 +1,20 @@
 // The top call.
 ghost use Rattle.std.specs.Prelude.{◌≡◌, ◌≤◌, ◌↔◌, None};
+ghost use Rattle.mem_pages.specs.declared.end.RunEnd.{RunEnd};
 ghost use Rattle.sw_host.specs.Told.{Tells, Rose};
-ghost use Rattle.sw_top.specs.Commands.{texts, command_of};
+ghost use Rattle.sw_top.specs.Texts.{texts};
+ghost use Rattle.sw_top.specs.Commands.{command_of};
 ghost use Rattle.sw_top.specs.Ends.{line_of};
 ghost use Rattle.sw_top.specs.Serves.{Performs, SaysLine, Serves};
 ghost use Rattle.sw_top.specs.Outcome.{Outcome};
-ghost use Rattle.sw_top.specs.Headline.{AfterDone};
+ghost use Rattle.sw_top.specs.Headline.{AfterDone, AfterRan};
 
 use crate::End;
 use crate::command::{Command, command_of};
 use crate::end::line_of;
 use crate::laws::command_laws;
 use crate::rewriting::perform_rewrite;
+use crate::running::perform_run;
 use elf_image::image_laws;
 use std::alloc::Global;
 use sw_host::{Host, host_laws};
@@ -26,6 +29,8 @@ pub fn sw<H: Host>(alloc: Global, words: &[String], host: &mut H) -> End
         (Outcome (command_of (texts words.now)) result (Rose (H.faults host.old) (H.faults host.new))) }
     // After Done the run of the written file agrees with that of the old one.
     ensures headline { result ≡ End.Done → Tells (H.told host.old) (H.told host.new) (AfterDone (command_of (texts words.now))) }
+    // After Ran the run of the image of IN has that end, over what the host gave.
+    ensures ran { (e : RunEnd) → result ≡ End.Ran e → Tells (H.told host.old) (H.told host.new) (AfterRan (command_of (texts words.now)) e) }
     // The words spell no command exactly where this is the answer, whatever the host.
     ensures usage { (result ≡ End.Usage) ↔ (command_of (texts words.now) ≡ None) }
     // A call of the host failed, as its count of faults shows.
@@ -51,6 +56,7 @@ fn perform<H: Host>(alloc: Global, command: &Command, host: &mut H) -> End
 {
     match command {
         Command::Rewrite(names) => perform_rewrite(alloc, names, host),
+        Command::Run(running) => perform_run(alloc, running, host),
     }
 }
 
@@ -60,6 +66,6 @@ fn report<H: Host>(end: &End, host: &mut H)
     ensures faults { H.faults host.old ≤ H.faults host.new }
 {
     if let Some(text) = line_of(end) {
-        let _ = host.line(text);
+        let _ = host.line(text.as_str());
     }
 }

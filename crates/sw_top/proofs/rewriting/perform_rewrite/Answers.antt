@@ -1,5 +1,5 @@
 use Rattle.std.proofs.Common.{arith}
-use Rattle.sw_top.proofs.Chain.{tells_map, tells_then, tells_three}
+use Rattle.sw_host.specs.Chains.{tells_map, tells_then, tells_three}
 use Rattle.sw_top.specs.declared.command.Names.{Names}
 use Rattle.sw_top.proofs.TellLemmas.{load_failed, too_long, refused, wants_memory, out_failed, out_wants, map_failed, map_wants, finished}
 use Rattle.sw_top.proofs.rewriting.perform_rewrite.Goals as goal

@@ -1,12 +1,7 @@
-use Rattle.std.proofs.Common.{◌≡◌, refl}
-use Rattle.sw_top.specs.declared.command.Names.{Names}
-use Rattle.sw_top.specs.declared.command.Command.{Command}
-use Rattle.sw_top.specs.declared.command.Command.TheVariants.{Rewrite}
 use Rattle.sw_top.proofs.top.perform.Goals as goal
 
--- there is one command so far
-one_command : (command : Command) → (names : Names) × (command ≡ Rewrite names)
-one_command (Rewrite names) = (names, refl)
+pub returns-in-Rewrite-clause-performs : goal.returns-in-Rewrite-clause-performs
+returns-in-Rewrite-clause-performs g c = rw c.in-Rewrite.is c.perform_rewrite.ensures.performs
 
-pub returns-clause-performs : goal.returns-clause-performs
-returns-clause-performs g c = let is = one_command c.args.command.now in rw is.1 (rw is.1 at c.perform_rewrite.ensures.performs)
+pub returns-in-Run-clause-performs : goal.returns-in-Run-clause-performs
+returns-in-Run-clause-performs g c = rw c.in-Run.is c.perform_run.ensures.performs

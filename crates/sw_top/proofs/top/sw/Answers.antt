@@ -1,14 +1,14 @@
 use Rattle.std.proofs.Common.{◌≡◌, Option, refl, subst}
 use Rattle.sw_host.specs.Told.{Tells, Rose}
-use Rattle.sw_top.proofs.Chain.{tells_map, tells_then}
+use Rattle.sw_host.specs.Chains.{tells_map, tells_then}
 use Rattle.sw_top.specs.declared.command.Command.{Command}
 use Rattle.sw_top.specs.declared.end.End.TheVariants.{Usage, Host}
-use Rattle.sw_top.specs.Commands.{texts}
+use Rattle.sw_top.specs.Texts.{texts}
 use Rattle.sw_top.specs.Serves.{Serves, PerformsThenSays}
 use Rattle.sw_top.specs.Outcome.{Outcome}
-use Rattle.sw_top.specs.Headline.{AfterDone}
+use Rattle.sw_top.specs.Headline.{AfterDone, AfterRan}
 use Rattle.sw_top.proofs.TellLemmas.{rose_after}
-use Rattle.sw_top.proofs.Outcomes.{LawsBelow, is_fit, usage_outcome, outcome, after_done}
+use Rattle.sw_top.proofs.Outcomes.{LawsBelow, is_fit, usage_outcome, outcome, after_done, after_ran}
 use Rattle.sw_top.proofs.top.sw.Goals as goal
 
 pub returns-in_default-clause-serves : goal.returns-in_default-clause-serves
@@ -42,3 +42,8 @@ returns-clause-headline g c e =
     let fit = is_fit c.command_laws.ensures (texts c.args.words.now) c.in-Some.command c.in-Some.ensures in
     let P = λ (o : Option Command). Tells (g.H.Host.told c.args.host.now) (g.H.Host.told c.report-2.new.host) (AfterDone o) in
     subst P c.in-Some.ensures (tells_then _ _ _ _ _ _ c.perform-end.ensures.performs c.report-2.ensures.says (λ a m b p q. after_done laws c.in-Some.command fit a b (subst (λ end. PerformsThenSays c.in-Some.command end a b) e (record { before_line = m; performs = p; says = q }))))
+
+pub returns-clause-ran : goal.returns-clause-ran
+returns-clause-ran g c e is =
+    let P = λ (o : Option Command). Tells (g.H.Host.told c.args.host.now) (g.H.Host.told c.report-2.new.host) (AfterRan o e) in
+    subst P c.in-Some.ensures (tells_then _ _ _ _ _ _ c.perform-end.ensures.performs c.report-2.ensures.says (λ a m b p q. after_ran c.in-Some.command e a b (subst (λ end. PerformsThenSays c.in-Some.command end a b) is (record { before_line = m; performs = p; says = q }))))

@@ -1,0 +1,6 @@
+-- No byte was lost by a read that was cut short.
+use Rattle.std.specs.Io.KnownBytes.{Keeps}
+use Rattle.sw_cli.proofs.streams.take_from.Given as goal
+
+abbrev pub invariant-loop : goal.invariant-loop
+invariant-loop g l = Keeps (g.R.Read.remaining l.initial.reader) (g.R.Read.remaining l.reader)
