@@ -1,3 +1,4 @@
+pub mod Listed
 pub mod Clearing
 pub mod PageSteps
 pub mod Tables

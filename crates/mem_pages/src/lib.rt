@@ -3,6 +3,7 @@
 
 mod access;
 mod directory;
+mod exposed;
 mod fault;
 mod page;
 mod pages;
