@@ -4,5 +4,6 @@ pub mod PageSteps
 pub mod Tables
 pub mod Lifting
 pub mod Parts
+pub mod Swept
 pub mod Shown
 pub mod Runs

@@ -1,9 +1,10 @@
 -- What pages hold.
-use Rattle.std.specs.Prelude.{◌≡◌, ℕ, ◌<◌, Bool, true, false}
+use Rattle.std.specs.Prelude.{◌≡◌, ℕ, ◌/◌, ◌<◌, Bool, false}
 use Rattle.memory.specs.Memory.{Memory, forget_below}
 use Rattle.mem_pages.specs.declared.pages.Pages.{Pages}
 use Rattle.mem_pages.specs.Page.{IsOffStack}
 use Rattle.mem_pages.specs.Directory.{contents, keeps}
+use Rattle.mem_pages.specs.Exposed.{lists}
 
 -- the memory that the pages are: that of the directory, of which the stack is forgotten below `lowest`
 unfoldable pub memory_in : Pages → Memory
@@ -13,6 +14,7 @@ memory_in p = forget_below p.lowest (contents p.directory)
 unfoldable pub is_kept : Pages → ℕ → Bool
 is_kept p a = keeps p.directory a
 
--- a place of the stack isn't below `lowest`
+-- a place of the stack isn't below `lowest`, and its page is listed
 pub record IsReady (at : ℕ) (p : Pages) : Type 0 where
   pub off : at < p.lowest → IsOffStack at (contents p.directory)
+  pub listed : lists p.exposed (at / 4096) ≡ false → IsOffStack at (contents p.directory)

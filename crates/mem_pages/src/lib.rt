@@ -9,6 +9,7 @@ mod page;
 mod pages;
 mod places;
 mod ranges;
+mod sweep;
 #[cfg(test)]
 mod tests;
 
