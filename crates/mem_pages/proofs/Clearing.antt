@@ -1,5 +1,5 @@
 -- Bytes that are made unspecified one after the other, that are written, and that come after those that are kept.
-use Rattle.std.proofs.Common.{◌≡◌, ◌≢◌, ◌==◌, ℕ, zero, suc, inl, inr, min, ◌+◌, ◌-◌, ◌<◌, ◌≤◌, ◌&&◌, Bool, true, false, cond, leb, ltb, eqb, List, [], ◌∷◌, ◌++◌, length, take, get_or, arith, refl, sym, ◌∙◌, ap}
+use Rattle.std.proofs.Common.{◌≡◌, ◌==◌, ℕ, zero, suc, inl, inr, min, ◌+◌, ◌<◌, ◌≤◌, ◌&&◌, false, cond, leb, ltb, List, [], ◌∷◌, ◌++◌, length, take, get_or, arith, refl, ◌∙◌}
 use Rattle.std.proofs.Math.ListN.{set, length-set, replicate, length-replicate}
 use Rattle.std.proofs.lemmas.List.{get_or-replicate, get_or-set_same, get_or-set_other, get_or_past, take_all}
 use Rattle.std.proofs.lemmas.Bool.{cases_eq, cases_lt, eq-eqb, ne_eqb}
@@ -15,8 +15,8 @@ pub record IsCleared (start at : ℕ) (old new : List Byte) : Type 0 where
 pub get_or_set : (bs : List Byte) (at : ℕ) (b : Byte) (i : ℕ) (d : Byte) → at < length bs → get_or (set bs at b) i d ≡ cond (i == at) b (get_or bs i d)
 get_or_set bs at b i d l =
     elim (cases_eq i at) as (λ _. get_or (set bs at b) i d ≡ cond (i == at) b (get_or bs i d)) [
-    | inl e ↦ rw (e, eq-eqb at at refl) (get_or-set_same bs at b d l)
-    | inr n ↦ rw (ne_eqb i at n) (get_or-set_other bs at i b d n)
+      | inl e ↦ rw (e, eq-eqb at at refl) (get_or-set_same bs at b d l)
+      | inr n ↦ rw (ne_eqb i at n) (get_or-set_other bs at i b d n)
     ]
 
 none : (start i : ℕ) → (leb start i && ltb i start) ≡ false
@@ -32,7 +32,7 @@ pub one_more : (start at : ℕ) (old new : List Byte) → start ≤ at → at < 
 one_more start at old new k l h = record {
   places = λ i. byte_more start at i _ _ _ k (get_or_set new at Unspecified i Unspecified l) (h.places i);
   len = length-set new at Unspecified ∙ h.len;
-  }
+}
 
 byte_past : (start at end len i : ℕ) (x y : Byte) → start ≤ end → (start ≤ min end len → at ≤ min end len) → min end len ≤ at → (len ≤ i → x ≡ Unspecified) → y ≡ cond (leb start i && ltb i at) Unspecified x → y ≡ cond (leb start i && ltb i end) Unspecified x
 byte_past start at end len i x y o a l p q = grind (arith, nat_tests)
@@ -43,9 +43,9 @@ all_cleared start at end old new o a l h i = byte_past start at end (length old)
 
 replicated : (n i : ℕ) (d : Byte) → get_or (replicate n d) i d ≡ d
 replicated n i d = elim (cases_lt i n) as (λ _. get_or (replicate n d) i d ≡ d) [
-    | inl l ↦ get_or-replicate n i d d l
-    | inr l ↦ get_or_past (replicate n d) i d (omega (arith, length-replicate n d))
-    ]
+  | inl l ↦ get_or-replicate n i d d l
+  | inr l ↦ get_or_past (replicate n d) i d (omega (arith, length-replicate n d))
+]
 
 get_or_more : (bs : List Byte) (n : ℕ) (d : Byte) (i : ℕ) → get_or (bs ++ replicate n d) i d ≡ get_or bs i d
 get_or_more [] n d i = replicated n i d

@@ -1,19 +1,19 @@
 -- What each change of a page comes to, place by place.
-use Rattle.std.proofs.Common.{◌≡◌, ℕ, inl, inr, ◌+◌, ◌<◌, ◌≤◌, ◌==◌, ◌&&◌, Bool, true, false, cond, leb, ltb, List, ◌++◌, length, take, get_or, Some, None, Result, Ok, Err, arith, refl, sym, ◌∙◌, ap, subst}
+use Rattle.std.proofs.Common.{◌≡◌, ℕ, ◌+◌, ◌-◌, ◌<◌, ◌≤◌, ◌==◌, ◌&&◌, Bool, true, false, cond, leb, ltb, ◌++◌, length, take, drop, get_or, Some, None, Result, Ok, Err, arith, refl, sym, ◌∙◌, ap, subst}
 use Rattle.std.specs.Result.{OnErr}
 use Rattle.std.proofs.Math.ListN.{replicate}
 use Rattle.mem_pages.proofs.Clearing.{get_or_grown, get_or_set}
 use Rattle.std.specs.declared.vec.Vec.{Vec}
 use Rattle.std.specs.declared.alloc.Global.{Global}
 use Rattle.std.specs.Vec.{with_item}
-use Rattle.std.proofs.lemmas.Bool.{and_parts}
+use Rattle.std.proofs.lemmas.List.{length-take, length-drop, get_or-take, get_or-drop, get_or_default}
 use Rattle.std.proofs.lemmas.Bool.Decides.{nat_tests}
 use Rattle.x86_values.specs.declared.byte.Byte.{Byte}
 use Rattle.x86_values.specs.declared.byte.Byte.TheVariants.{Known, Unspecified}
-use Rattle.memory.specs.Memory.{Place, Memory, put, with_byte, forgotten}
+use Rattle.memory.specs.Memory.{Place, Memory, Load, allows, byte_of, put, with_byte, forgotten}
 use Rattle.mem_pages.specs.declared.page.Page.{Page}
 use Rattle.mem_pages.specs.Regions.{is_unspecified, forget_between}
-use Rattle.mem_pages.specs.Page.{byte_in, maps, place_in, kept_in, KeepsBytes}
+use Rattle.mem_pages.specs.Page.{byte_in, maps, place_in, kept_in, KeepsBytes, ShowsBytes}
 
 -- a place of a page by its byte
 abbrev pub place_of : Page → ℕ → Byte → Place
@@ -132,3 +132,25 @@ put_alike at b m n k e = ap (λ o. cond (k == at) (with_byte b o) o) e
 pub on_error : {A E : Type 0} {P : Type 0} (r : Result A E) → P → OnErr r P
 on_error (Ok x) p = tt
 on_error (Err e) p = p
+
+-- ---- parts
+mapped_byte : (g : Page) (k : ℕ) → allows Load (place_in g k) ≡ true → byte_of (place_in g k) ≡ byte_in g k
+unfolding place_in
+mapped_byte g k h = shows (maps g k) (byte_in g k) h
+  where
+    shows : (t : Bool) (b : Byte) → allows Load (cond t (Some (place_of g k b)) None) ≡ true → byte_of (cond t (Some (place_of g k b)) None) ≡ b
+    shows true b h = refl
+    shows false b h = cc
+
+not_hidden : (s : Bool) (k at low : ℕ) (x : Byte) → (s && ltb at low) ≡ false → at ≤ k → cond (s && ltb k low) Unspecified x ≡ x
+not_hidden s k at low x h l = grind (arith, nat_tests)
+
+pub shows_part : (g : Page) (at count : ℕ) → 4096 ≤ length g.bytes.items → at + count ≤ 4096 → (is_unspecified g.unset && ltb at g.low) ≡ false → ShowsBytes (place_in g) at count (take (at + count - at) (drop at g.bytes.items))
+shows_part g at count l m h = record {
+  len = length-take (at + count - at) (drop at g.bytes.items) ∙ omega (arith, length-drop at g.bytes.items);
+  shown = λ k less x.
+      let there : at + k < length g.bytes.items = omega arith in
+      mapped_byte g (at + k) x ∙ not_hidden (is_unspecified g.unset) (at + k) at g.low _ h (omega arith)
+      ∙ get_or_default g.bytes.items (at + k) g.unset Unspecified there
+      ∙ sym (get_or-take (at + count - at) (drop at g.bytes.items) k Unspecified (omega arith) ∙ get_or-drop at g.bytes.items k Unspecified);
+}

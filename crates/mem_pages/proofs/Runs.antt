@@ -1,15 +1,15 @@
 -- Accesses of several bytes: judged, kept, stored, loaded and copied one after the other.
-use Rattle.std.proofs.Common.{◌≡◌, ◌≢◌, ℕ, zero, suc, ◌+◌, ◌-◌, ◌/◌, ◌%◌, ◌^◌, ◌<◌, ◌≤◌, ◌&&◌, Bool, true, false, cond, List, [], ◌∷◌, ◌++◌, length, map, take, get_or, Option, Some, None, Result, Ok, Err, arith, refl, sym, ◌∙◌, ap, subst, inl, inr}
-use Rattle.std.specs.Result.{OnOk, OnErr, is_err}
+use Rattle.std.proofs.Common.{◌≡◌, ℕ, zero, suc, ◌+◌, ◌-◌, ◌/◌, ◌%◌, ◌^◌, ◌<◌, ◌≤◌, ◌&&◌, Bool, true, false, cond, List, [], ◌∷◌, ◌++◌, length, map, take, get_or, Option, Some, None, Result, Ok, Err, arith, refl, sym, ◌∙◌, ap, inl, inr}
+use Rattle.std.specs.Result.{OnOk, is_err}
 use Rattle.std.proofs.Math.ListN.{set}
-use Rattle.std.proofs.lemmas.List.{length-take, take_more, take_more_set, take_all, length-take-le, map-append, length-map}
-use Rattle.std.proofs.lemmas.Bool.{cases_lt, cases_Bool, and_parts, false≢true, false_from_ne_true}
+use Rattle.std.proofs.lemmas.List.{same_lists, get_or_default, length-take, take_more, take_more_set, take_all, length-take-le, length-map}
+use Rattle.std.proofs.lemmas.Bool.{cases_lt, and_parts, false≢true, false_from_ne_true}
 use Rattle.x86_values.specs.declared.byte.Byte.{Byte}
 use Rattle.x86_values.specs.declared.byte.Byte.TheVariants.{Known, Unspecified}
-use Rattle.x86_values.specs.Words.{known_byte, with_number, all_known, padded}
-use Rattle.memory.specs.Memory.{Place, Memory, AccessKind, Load, Store, allows, allows_all, wrapped, put, put_all, byte_of, bytes_at}
+use Rattle.x86_values.specs.Words.{known_byte, with_number, all_known}
+use Rattle.memory.specs.Memory.{Place, Memory, AccessKind, Load, allows, allows_all, wrapped, put, put_all, byte_of, bytes_at}
 use Rattle.mem_pages.specs.declared.pages.Pages.{Pages}
-use Rattle.mem_pages.specs.Page.{Judges, seen, joined, known_there}
+use Rattle.mem_pages.specs.Page.{Judges, seen, joined, known_there, ShowsBytes}
 use Rattle.mem_pages.specs.Contents.{memory_in, is_kept}
 use Rattle.mem_pages.specs.Accesses.{KeepsPages, SameMemory, IsNotAllKept, IsAllKept, IsKept, loaded}
 use Rattle.mem_pages.proofs.Shown.{keeps_itself, keeps_then}
@@ -78,7 +78,7 @@ none_kept at count p l = record {
   same = record { memory = refl };
   keeps = keeps_itself p;
   kept = λ k x. absurd (omega arith);
-  }
+}
 
 allows_same : (p q : Pages) (a : ℕ) → memory_in q ≡ memory_in p → allows Load (memory_in p a) ≡ true → allows Load (memory_in q a) ≡ true
 allows_same p q a e h = ap (λ m. allows Load (m a)) e ∙ h
@@ -87,15 +87,15 @@ pub more_kept : (at done part count next after : ℕ) (p q r : Pages) → part �
 more_kept at done part count next after p q r l less in_page e same keeps kept h =
     let n = h.next_is in
     record {
-  within = omega arith;
-  next_is = omega (arith, e, n);
-  same = record { memory = same.memory ∙ h.same.memory };
-  keeps = keeps_then p q r h.keeps keeps;
-  kept = λ k x y. elim (cases_lt k done) as (λ _. is_kept r (wrapped (at + k)) ≡ true) [
-    | inl z ↦ keeps.kept _ (h.kept k z y)
-    | inr z ↦ kept (wrapped (at + k)) (omega (arith, n)) (allows_same p q (wrapped (at + k)) h.same.memory y)
-    ];
-  }
+      within = omega arith;
+      next_is = omega (arith, e, n);
+      same = record { memory = same.memory ∙ h.same.memory };
+      keeps = keeps_then p q r h.keeps keeps;
+      kept = λ k x y. elim (cases_lt k done) as (λ _. is_kept r (wrapped (at + k)) ≡ true) [
+        | inl z ↦ keeps.kept _ (h.kept k z y)
+        | inr z ↦ kept (wrapped (at + k)) (omega (arith, n)) (allows_same p q (wrapped (at + k)) h.same.memory y)
+      ];
+    }
 
 pub all_kept_to : (at done count next : ℕ) (p q : Pages) → count ≤ done → IsKeptTo at done count next p q → IsKept at count p q
 all_kept_to at done count next p q l h = λ k x. h.kept k (omega arith)
@@ -105,7 +105,7 @@ not_all_kept at done count next p q l missing h = record {
   offset = done;
   within = l;
   not_kept = false_from_ne_true _ (λ t. false≢true (sym missing ∙ ap (is_kept q) h.next_is ∙ h.keeps.kept (wrapped (at + done)) t));
-  }
+}
 
 -- ---- stored
 -- the first of some bytes were stored
@@ -125,12 +125,12 @@ put_all_push at (c ∷ bs) b m = let z : at + suc (length bs) ≡ at + 1 + lengt
 pub more_put : (at k : ℕ) (bs : List Byte) (b d : Byte) (there : ℕ) (p q r : Pages) → k < length bs → b ≡ get_or bs k d → there ≡ wrapped (at + k) → memory_in r ≡ put there b (memory_in q) → KeepsPages q r → IsPutTo at k bs p q → IsPutTo at (k + 1) bs p r
 more_put at k bs b d there p q r l e t m keeps h = record {
   memory =
-    let len : length (take k bs) ≡ k = length-take-le k bs (omega arith) in
-    let pushed : put_all at (take (k + 1) bs) (memory_in p) ≡ put (wrapped (at + k)) b (put_all at (take k bs) (memory_in p)) =
-        ap (λ x. put_all at x (memory_in p)) (take_more bs k d l) ∙ put_all_push at (take k bs) (get_or bs k d) (memory_in p) ∙ rw (len, ← e) refl in
-    m ∙ rw (t, h.memory) (sym pushed);
+      let len : length (take k bs) ≡ k = length-take-le k bs (omega arith) in
+      let pushed : put_all at (take (k + 1) bs) (memory_in p) ≡ put (wrapped (at + k)) b (put_all at (take k bs) (memory_in p)) =
+      ap (λ x. put_all at x (memory_in p)) (take_more bs k d l) ∙ put_all_push at (take k bs) (get_or bs k d) (memory_in p) ∙ rw (len, ← e) refl in
+      m ∙ rw (t, h.memory) (sym pushed);
   keeps = keeps_then p q r h.keeps keeps;
-  }
+}
 
 pub all_put : (at k : ℕ) (bs : List Byte) (p q : Pages) → length bs ≤ k → IsPutTo at k bs p q → memory_in q ≡ put_all at bs (memory_in p)
 all_put at k bs p q l h = h.memory ∙ ap (λ x. put_all at x (memory_in p)) (take_all k bs l)
@@ -257,3 +257,26 @@ joins a b c d = rw (a, b, c, d) refl
 
 pub take_short : (n : ℕ) (bs : List Byte) → length (take n bs) ≤ n
 take_short n bs = omega (arith, length-take n bs)
+
+-- ---- lent
+length-bytes_at : (m : Memory) (at n : ℕ) → length (bytes_at m at n) ≡ n
+unfolding bytes_at
+length-bytes_at m at zero = refl
+length-bytes_at m at (suc n) = let h = length-bytes_at m (at + 1) n in omega (arith, h)
+
+get_or-bytes_at : (m : Memory) (at n k : ℕ) (d : Byte) → k < n → get_or (bytes_at m at n) k d ≡ byte_of (m (wrapped (at + k)))
+unfolding bytes_at
+get_or-bytes_at m at zero k d l = absurd (omega arith)
+get_or-bytes_at m at (suc n) zero d l = let z : at + 0 ≡ at = omega arith in rw z refl
+get_or-bytes_at m at (suc n) (suc k) d l = let z : at + suc k ≡ at + 1 + k = omega arith in rw z (get_or-bytes_at m (at + 1) n k d (omega arith))
+
+pub bytes_shown : (m : Memory) (at count : ℕ) (bytes : List Byte) → at < 2 ^ 32 → at % 4096 + count ≤ 4096 → allows_all Load m at count ≡ true → ShowsBytes m at count bytes → bytes ≡ bytes_at m at count
+bytes_shown m at count bytes b l all h = same_lists bytes (bytes_at m at count) (h.len ∙ sym (length-bytes_at m at count)) (λ k d less.
+    let n : k < count = omega (arith, h.len) in
+    let z : wrapped (at + k) ≡ at + k = omega arith in
+    let a : allows Load (m (at + k)) ≡ true = rw z at (all_allowed Load m at count k all n) in
+    get_or_default bytes k d Unspecified less ∙ sym (h.shown k n a) ∙ sym (get_or-bytes_at m at count k d n ∙ ap (λ x. byte_of (m x)) z))
+
+pub nothing_at : (m : Memory) (at : ℕ) → (allows_all Load m at 0 ≡ true) × ([] ≡ bytes_at m at 0)
+unfolding allows_all bytes_at
+nothing_at m at = (refl, refl)

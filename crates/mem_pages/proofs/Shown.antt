@@ -1,21 +1,20 @@
 -- From the places of the directory to the memory, of which the stack is forgotten below an address.
-use Rattle.std.proofs.Common.{◌≡◌, ◌≢◌, ℕ, ◌+◌, ◌-◌, ◌/◌, ◌%◌, ◌<◌, ◌≤◌, ◌==◌, ◌&&◌, ◌||◌, Bool, true, false, cond, leb, ltb, Option, Some, None, Result, Ok, Err, arith, refl, sym, ◌∙◌, ap, inl, inr}
+use Rattle.std.proofs.Common.{◌≡◌, ℕ, ◌+◌, ◌/◌, ◌%◌, ◌<◌, ◌≤◌, ◌==◌, ◌&&◌, ◌||◌, Bool, true, false, cond, leb, ltb, List, Option, Some, None, Result, Ok, Err, arith, refl, sym, ◌∙◌, ap}
 use Rattle.std.specs.Option.{option_map}
 use Rattle.std.specs.Result.{OnOk, OnErr}
-use Rattle.std.proofs.lemmas.Bool.{cases_eq, cases_lt, cases_Bool, cond-true, cond-false, lt-ltb, le-ltb, ltb-true, eqb-true, ne_eqb, eq-eqb, false≢true}
+use Rattle.std.proofs.lemmas.Bool.{cond-false, lt-ltb, ltb-true, eqb-true, false≢true}
 use Rattle.std.proofs.lemmas.Bool.Decides.{nat_tests}
 use Rattle.x86_values.specs.declared.byte.Byte.{Byte}
 use Rattle.x86_values.specs.declared.byte.Byte.TheVariants.{Known, Unspecified}
-use Rattle.memory.specs.Memory.{Place, Memory, AccessKind, Load, Store, allows, with_byte, put, forgotten, forget_below}
+use Rattle.memory.specs.Memory.{Place, Memory, AccessKind, Load, Store, allows, byte_of, with_byte, put, forgotten, forget_below}
 use Rattle.mem_pages.specs.declared.directory.Directory.{Directory}
 use Rattle.mem_pages.specs.declared.pages.Pages.{Pages}
-use Rattle.mem_pages.specs.declared.fault.PageFault.{PageFault}
 use Rattle.mem_pages.specs.declared.fault.PageFault.TheVariants as fault
-use Rattle.mem_pages.specs.Regions.{unmapped, region_place, with_region, forget_between, is_unspecified, HasRoom}
-use Rattle.mem_pages.specs.Page.{shown, seen, IsOffStack, Judges}
+use Rattle.mem_pages.specs.Regions.{unmapped, region_place, with_region, forget_between, HasRoom}
+use Rattle.mem_pages.specs.Page.{shown, seen, Judges, ShowsBytes}
 use Rattle.mem_pages.specs.Directory.{page_at, contents, keeps, KeepsPlaces, place_on}
 use Rattle.mem_pages.specs.Contents.{memory_in, is_kept, IsReady}
-use Rattle.mem_pages.specs.Accesses.{byte_read, KeepsPages, SameMemory, Writes}
+use Rattle.mem_pages.specs.Accesses.{byte_read, KeepsPages, SameMemory}
 use Rattle.mem_pages.proofs.Parts.{forget_joined}
 use Rattle.mem_pages.proofs.Swept.{forgotten_twice}
 
@@ -148,7 +147,7 @@ put_shown false u b o h = refl
 
 pub put_byte : (p q : Pages) (at : ℕ) (b : Byte) → q.lowest ≡ p.lowest → IsReady at p → ((a : ℕ) → contents q.directory a ≡ put at b (contents p.directory) a) → memory_in q ≡ put at b (memory_in p)
 unfolding memory_in forget_below put
-put_byte p q at b e ready h = λ i a. (at_lowest q p.lowest a e ∙ ap (shown (ltb a p.lowest)) (h a) ∙ put_shown (a == at) (ltb a p.lowest) b (contents p.directory a) (λ e l q f. let s = eqb-true a at e in (ready.off (omega (arith, s, ltb-true a p.lowest l))).off q (ap (contents p.directory) (sym s) ∙ f))) i
+put_byte p q at b e ready h = λ i a. (at_lowest q p.lowest a e ∙ ap (shown (ltb a p.lowest)) (h a) ∙ put_shown (a == at) (ltb a p.lowest) b (contents p.directory a) (λ e l q f. let s = eqb-true a at e in (ready.off (omega (arith, s, ltb-true a p.lowest l))).off at q refl (ap (contents p.directory) (sym s) ∙ f))) i
 
 pub put_after : (at : ℕ) (b : Byte) (m n : Memory) → m ≡ n → put at b m ≡ put at b n
 put_after at b m n e = ap (put at b) e
@@ -210,3 +209,14 @@ is_writable (Some p) w e = cc
 pub judged_in : (r : Bool) (kind : AccessKind) (p : Pages) (at count : ℕ) → Judges r kind (contents p.directory) at count → Judges r kind (memory_in p) at count
 judged_in true kind p at count h = λ k l. allowed_in p kind (at + k) ∙ h k l
 judged_in false kind p at count h = (h.0, h.1, allowed_in p kind (at + h.0) ∙ h.2)
+
+shown_byte : (t : Bool) (o : Option Place) → (t ≡ true → (p : Place) → o ≡ Some p → p.on_stack ≡ false) → byte_of (shown t o) ≡ byte_of o
+shown_byte true o h = ap byte_of (off_stack_same o (h refl))
+shown_byte false o h = refl
+
+pub shows_bytes : (p : Pages) (at count : ℕ) (bytes : List Byte) → at % 4096 + count ≤ 4096 → IsReady at p → ShowsBytes (contents p.directory) at count bytes → ShowsBytes (memory_in p) at count bytes
+unfolding memory_in forget_below
+shows_bytes p at count bytes l ready h = record {
+  len = h.len;
+  shown = λ k m x. shown_byte (ltb (at + k) p.lowest) (contents p.directory (at + k)) (λ t q f. (ready.off (omega (arith, ltb-true (at + k) p.lowest t))).off (at + k) q (omega arith) f) ∙ h.shown k m (sym (shown_allows Load (ltb (at + k) p.lowest) (contents p.directory (at + k))) ∙ x);
+}

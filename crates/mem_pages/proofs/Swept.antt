@@ -81,7 +81,7 @@ put_quiet false b o off h = h
 
 pub quiet_put : (e : Exposed) (d d' : Directory) (at : ℕ) (b : Byte) → (lists e (at / 4096) ≡ false → IsOffStack at (contents d)) → ((a : ℕ) → contents d' a ≡ put at b (contents d) a) → IsQuiet e d → IsQuiet e d'
 unfolding put
-quiet_put e d d' at b off places h = λ a l. ap is_forgotten (places a) ∙ put_quiet (a == at) b (contents d a) (λ t p q. let s = eqb-true a at t in (off (ap (λ x. lists e (x / 4096)) (sym s) ∙ l)).off p (ap (contents d) (sym s) ∙ q)) (h a l)
+quiet_put e d d' at b off places h = λ a l. ap is_forgotten (places a) ∙ put_quiet (a == at) b (contents d a) (λ t p q. let s = eqb-true a at t in (off (ap (λ x. lists e (x / 4096)) (sym s) ∙ l)).off at p refl (ap (contents d) (sym s) ∙ q)) (h a l)
 
 -- ---- the sweep
 -- of the pages below `end` some were forgotten, and the others are listed or quiet

@@ -1,8 +1,8 @@
 -- The pages of tables.
-use Rattle.std.proofs.Common.{◌≡◌, ◌≢◌, ℕ, zero, suc, ◌+◌, ◌*◌, ◌/◌, ◌%◌, ◌<◌, ◌≤◌, ◌==◌, ◌&&◌, Bool, true, false, cond, List, [], ◌∷◌, ◌++◌, length, Option, Some, None, Result, Ok, Err, arith, refl, sym, ◌∙◌, ap, inl, inr}
-use Rattle.std.proofs.Math.ListN.{set, length-set, length-append}
+use Rattle.std.proofs.Common.{◌≡◌, ◌≢◌, ℕ, zero, suc, ◌/◌, ◌%◌, ◌<◌, ◌≤◌, ◌==◌, ◌&&◌, Bool, true, false, cond, List, [], ◌∷◌, ◌++◌, length, Option, Some, None, Result, Ok, Err, arith, refl, sym, ◌∙◌, ap, inl, inr}
+use Rattle.std.proofs.Math.ListN.{set, length-append}
 use Rattle.std.specs.List.{slice_get}
-use Rattle.std.proofs.lemmas.Option.{slice_get_within, slice_get_past}
+use Rattle.std.proofs.lemmas.Option.{slice_get_within}
 use Rattle.std.proofs.lemmas.Bool.{cases_eq, cases_lt, cases_Bool, eq-eqb, ne_eqb, eqb-true, and_parts}
 use Rattle.std.proofs.lemmas.Bool.Decides.{nat_tests}
 use Rattle.std.specs.Option.{option_map, OnSome, is_some}
@@ -10,7 +10,7 @@ use Rattle.std.specs.Result.{OnOk}
 use Rattle.mem_pages.specs.declared.page.Page.{Page}
 use Rattle.mem_pages.specs.declared.directory.Table.{Table}
 use Rattle.mem_pages.specs.declared.directory.Directory.{Directory}
-use Rattle.mem_pages.specs.Page.{place_in, kept_in}
+use Rattle.mem_pages.specs.Page.{place_in}
 use Rattle.mem_pages.specs.Directory.{pages_of, page_at, IsWithPage, IsGrown, HasGrown}
 use Rattle.mem_pages.specs.Lending.{with_page, with_table}
 
@@ -48,22 +48,22 @@ pages_put ts t i j m k w g e f =
     let here : pages_of ts i ≡ t.pages.items = pages_of_is ts i (Some t) e in
     rw (pages_of_set ts i m (with_page t j w) l)
     ((elim (cases_eq m i) as (λ _. slice_get (cond (m == i) (set t.pages.items j w) (pages_of ts m)) k ≡ cond ((m == i) && (k == j)) (Some w) (slice_get (pages_of ts m) k)) [
-    | inl same ↦ rw (same, eq-eqb i i refl, here) (slice_get_set t.pages.items j k w n)
-    | inr other ↦ rw (ne_eqb m i other) refl
+      | inl same ↦ rw (same, eq-eqb i i refl, here) (slice_get_set t.pages.items j k w n)
+      | inr other ↦ rw (ne_eqb m i other) refl
     ]))
 
 number_parts : (m n : ℕ) → m ≢ n → ((m / 1024 == n / 1024) && (m % 1024 == n % 1024)) ≡ false
 number_parts m n h = elim (cases_Bool ((m / 1024 == n / 1024) && (m % 1024 == n % 1024))) as (λ _. ((m / 1024 == n / 1024) && (m % 1024 == n % 1024)) ≡ false) [
-    | inl t ↦ let p = and_parts _ _ t in absurd (h (omega (arith, eqb-true (m / 1024) (n / 1024) p.0, eqb-true (m % 1024) (n % 1024) p.1)))
-    | inr f ↦ f
-    ]
+  | inl t ↦ let p = and_parts _ _ t in absurd (h (omega (arith, eqb-true (m / 1024) (n / 1024) p.0, eqb-true (m % 1024) (n % 1024) p.1)))
+  | inr f ↦ f
+]
 
 pub page_lent : (d : Directory) (n : ℕ) (t : Table) (g w : Page) → Some t ≡ slice_get d.tables.items (n / 1024) → Some g ≡ slice_get t.pages.items (n % 1024) → IsWithPage d (with_table d (n / 1024) (with_page t (n % 1024) w)) n w
 unfolding page_at
 page_lent d n t g w e f = record {
   there = pages_put d.tables.items t (n / 1024) (n % 1024) (n / 1024) (n % 1024) w g e f ∙ rw (eq-eqb (n / 1024) (n / 1024) refl, eq-eqb (n % 1024) (n % 1024) refl) refl;
   elsewhere = λ m h. pages_put d.tables.items t (n / 1024) (n % 1024) (m / 1024) (m % 1024) w g e f ∙ rw (number_parts m n h) refl;
-  }
+}
 
 pub table_as_it_was : (d : Directory) (i : ℕ) (t : Table) → Some t ≡ slice_get d.tables.items i → (m : ℕ) → page_at (with_table d i t) m ≡ page_at d m
 unfolding page_at
@@ -71,8 +71,8 @@ table_as_it_was d i t e m =
     let l : i < length d.tables.items = slice_get_within d.tables.items i t (sym e) in
     rw (pages_of_set d.tables.items i (m / 1024) t l)
     ((elim (cases_eq (m / 1024) i) as (λ _. slice_get (cond (m / 1024 == i) t.pages.items (pages_of d.tables.items (m / 1024))) (m % 1024) ≡ slice_get (pages_of d.tables.items (m / 1024)) (m % 1024)) [
-    | inl same ↦ rw (same, eq-eqb i i refl, pages_of_is d.tables.items i (Some t) e) refl
-    | inr other ↦ rw (ne_eqb (m / 1024) i other) refl
+      | inl same ↦ rw (same, eq-eqb i i refl, pages_of_is d.tables.items i (Some t) e) refl
+      | inr other ↦ rw (ne_eqb (m / 1024) i other) refl
     ]))
 
 pub page_found : (d : Directory) (n : ℕ) (t : Table) → Some t ≡ slice_get d.tables.items (n / 1024) → slice_get t.pages.items (n % 1024) ≡ page_at d n
@@ -113,18 +113,18 @@ same_pages gs = record {
   same = λ i l. refl;
   added = λ i g l e. absurd (omega (arith, slice_get_within gs i g e));
   longer = omega arith;
-  }
+}
 
 pub one_more_page : (old now then : List Page) (g : Page) → ((at : ℕ) → place_in g at ≡ None) → then ≡ now ++ g ∷ [] → IsGrown old now → IsGrown old then
 one_more_page old now then g blank e h = rw e (record {
   same = λ i l. get_front now g i (omega (arith, h.longer)) ∙ h.same i l;
   added = λ i x l f.
-    elim (cases_lt i (length now)) as (λ _. (at : ℕ) → place_in x at ≡ None) [
-    | inl k ↦ h.added i x l (sym (get_front now g i k) ∙ f)
-    | inr k ↦ λ at. ap (λ y. place_in y at) (sym (get_last now g x i k f)) ∙ blank at
-    ];
+      elim (cases_lt i (length now)) as (λ _. (at : ℕ) → place_in x at ≡ None) [
+        | inl k ↦ h.added i x l (sym (get_front now g i k) ∙ f)
+        | inr k ↦ λ at. ap (λ y. place_in y at) (sym (get_last now g x i k f)) ∙ blank at
+      ];
   longer = omega (arith, h.longer, length-append now (g ∷ []));
-  })
+})
 
 pub grown_or_same : (t : Bool) (old now then : List Page) (g : Page) → ((at : ℕ) → place_in g at ≡ None) → then ≡ cond t (now ++ g ∷ []) now → IsGrown old now → IsGrown old then
 grown_or_same true old now then g blank e h = one_more_page old now then g blank e h
@@ -136,8 +136,8 @@ table_grown d i t u e h j =
     let l : i < length d.tables.items = slice_get_within d.tables.items i t (sym e) in
     rw (pages_of_set d.tables.items i j u l)
     ((elim (cases_eq j i) as (λ _. IsGrown (pages_of d.tables.items j) (cond (j == i) u.pages.items (pages_of d.tables.items j))) [
-    | inl same ↦ rw (same, eq-eqb i i refl, pages_of_is d.tables.items i (Some t) e) h
-    | inr other ↦ rw (ne_eqb j i other) (same_pages (pages_of d.tables.items j))
+      | inl same ↦ rw (same, eq-eqb i i refl, pages_of_is d.tables.items i (Some t) e) h
+      | inr other ↦ rw (ne_eqb j i other) (same_pages (pages_of d.tables.items j))
     ]))
 
 pub has_grown : (d e : Directory) (i : ℕ) (t u : Table) → ((j : ℕ) → pages_of e.tables.items j ≡ pages_of d.tables.items j) → Some t ≡ slice_get e.tables.items i → IsGrown t.pages.items u.pages.items → HasGrown d (with_table e i u)

@@ -1,5 +1,5 @@
 -- What an access of pages comes to, by its answer.
-use Rattle.std.specs.Prelude.{◌≡◌, ℕ, ◌+◌, ◌<◌, Bool, true, false, cond, List, map, length, take, Option, Some, None, Result, Ok, Err}
+use Rattle.std.specs.Prelude.{◌≡◌, ℕ, ◌+◌, ◌<◌, true, false, cond, List, map, length, take, Option, Some, None, Result, Ok, Err}
 use Rattle.x86_values.specs.declared.byte.Byte.{Byte}
 use Rattle.x86_values.specs.declared.byte.Byte.TheVariants.{Known}
 use Rattle.x86_values.specs.declared.word.Word.{Word}
@@ -77,3 +77,9 @@ Lent m at count (Ok bytes) = (allows_all Load m at count ≡ true) × (bytes ≡
 Lent m at count (Err fault.NotMapped) = allows_all Load m at count ≡ false
 Lent m at count (Err fault.NotWritable) = ⊥
 Lent m at count (Err fault.Memory) = ⊥
+
+-- The same, or want of memory where the page isn't kept or has bytes of the stack that are forgotten only in name: then `read`
+-- gives the bytes one by one.
+abbrev pub LentWhereKept : Memory → ℕ → ℕ → Result (List Byte) PageFault → Type 0
+LentWhereKept m at count (Err fault.Memory) = allows_all Load m at count ≡ true
+LentWhereKept m at count r = Lent m at count r

@@ -14,7 +14,10 @@ memory_in p = forget_below p.lowest (contents p.directory)
 unfoldable pub is_kept : Pages → ℕ → Bool
 is_kept p a = keeps p.directory a
 
--- a place of the stack isn't below `lowest`, and its page is listed
+-- a place of the stack isn't below `lowest`
 pub record IsReady (at : ℕ) (p : Pages) : Type 0 where
   pub off : at < p.lowest → IsOffStack at (contents p.directory)
-  pub listed : lists p.exposed (at / 4096) ≡ false → IsOffStack at (contents p.directory)
+
+-- the page of a place of the stack is listed
+pub record IsListed (at : ℕ) (p : Pages) : Type 0 where
+  pub off : lists p.exposed (at / 4096) ≡ false → IsOffStack at (contents p.directory)

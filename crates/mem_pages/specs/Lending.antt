@@ -1,5 +1,5 @@
 -- What a table and a directory end as, where a page of theirs is lent.
-use Rattle.std.specs.Prelude.{◌≡◌, ℕ, Option, Some, None}
+use Rattle.std.specs.Prelude.{◌≡◌, ℕ, Option}
 use Rattle.std.specs.Option.{OnSome}
 use Rattle.std.specs.Borrow.{LendsIf, LendsSo, MutBor, Fml}
 use Rattle.std.specs.Vec.{with_item}

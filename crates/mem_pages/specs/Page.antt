@@ -1,11 +1,11 @@
 -- What a page holds.
-use Rattle.std.specs.Prelude.{◌≡◌, ℕ, ◌+◌, ◌<◌, ◌&&◌, Bool, true, false, cond, leb, ltb, length, slice_index_or, Option, Some, None}
+use Rattle.std.specs.Prelude.{◌≡◌, ℕ, ◌+◌, ◌/◌, ◌<◌, ◌&&◌, Bool, true, false, cond, leb, ltb, length, slice_index_or, List, Option, Some, None}
 use Rattle.std.specs.Option.{option_map}
 use Rattle.x86_values.specs.declared.byte.Byte.{Byte}
-use Rattle.x86_values.specs.declared.byte.Byte.TheVariants.{Known, Unspecified}
+use Rattle.x86_values.specs.declared.byte.Byte.TheVariants.{Unspecified}
 use Rattle.x86_values.specs.declared.word.Word.{Word}
 use Rattle.x86_values.specs.Words.{known_byte}
-use Rattle.memory.specs.Memory.{Place, Memory, AccessKind, Load, Store, allows, forgotten}
+use Rattle.memory.specs.Memory.{Place, Memory, AccessKind, Load, Store, allows, byte_of, forgotten}
 use Rattle.mem_pages.specs.declared.page.Page.{Page}
 use Rattle.mem_pages.specs.Regions.{is_unspecified}
 
@@ -46,9 +46,9 @@ abbrev pub Judges : Bool → AccessKind → Memory → ℕ → ℕ → Type 0
 Judges true kind m at count = (k : ℕ) → k < count → allows kind (m (at + k)) ≡ true
 Judges false kind m at count = (k : ℕ) × (k < count) × (allows kind (m (at + k)) ≡ false)
 
--- a place is none of the stack
+-- no place of the page of an address is one of the stack
 pub record IsOffStack (at : ℕ) (m : Memory) : Type 0 where
-  pub off : (p : Place) → m at ≡ Some p → p.on_stack ≡ false
+  pub off : (a : ℕ) (p : Place) → a / 4096 ≡ at / 4096 → m a ≡ Some p → p.on_stack ≡ false
 
 -- the word of four bytes, the lowest first, where each is there
 abbrev pub joined : Option Byte → Option Byte → Option Byte → Option Byte → Option Word
@@ -59,3 +59,8 @@ joined _ _ _ _ = None
 abbrev pub known_there : Option Byte → Option ℕ
 known_there None = None
 known_there (Some b) = known_byte b
+
+-- bytes are those of some mapped places from an address on
+pub record ShowsBytes (m : Memory) (at count : ℕ) (bytes : List Byte) : Type 0 where
+  pub len : length bytes ≡ count
+  pub shown : (k : ℕ) → k < count → allows Load (m (at + k)) ≡ true → byte_of (m (at + k)) ≡ slice_index_or bytes k Unspecified

@@ -29,12 +29,7 @@ fn in_page(at: u32, count: u64) -> u32
 }
 
 /// The word of four bytes, the lowest first, where each is there.
-fn joined(
-    b0: Option<Byte>,
-    b1: Option<Byte>,
-    b2: Option<Byte>,
-    b3: Option<Byte>,
-) -> Option<Word>
+fn joined(b0: Option<Byte>, b1: Option<Byte>, b2: Option<Byte>, b3: Option<Byte>) -> Option<Word>
     ensures { result ≡ joined b0 b1 b2 b3 }
 {
     match (b0, b1, b2, b3) {

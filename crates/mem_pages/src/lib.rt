@@ -5,6 +5,7 @@ mod access;
 mod directory;
 mod exposed;
 mod fault;
+mod lend;
 mod page;
 mod pages;
 mod places;

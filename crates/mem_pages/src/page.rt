@@ -1,11 +1,11 @@
 // One page of 4,096 addresses: the part of it that is mapped, and its bytes once they are kept.
-ghost use Rattle.std.specs.Prelude.{◌≡◌, ℕ, ◌+◌, ◌<◌, ◌≤◌, ◌&&◌, Bool, true, false, cond, leb, ltb, length, slice_index_or, OnOk, OnErr, Option, Some, None};
+ghost use Rattle.std.specs.Prelude.{◌≡◌, ℕ, ◌+◌, ◌<◌, ◌≤◌, ◌&&◌, Bool, true, false, cond, leb, ltb, length, slice_index_or, OnOk, OnErr, IfSome, Option, Some, None};
 ghost use Rattle.std.specs.Option.{option_map};
 ghost use Rattle.x86_values.specs.declared.byte.Byte.{Byte};
 ghost use Rattle.x86_values.specs.declared.byte.Byte.TheVariants as byte;
 ghost use Rattle.memory.specs.Memory.{put};
 ghost use Rattle.mem_pages.specs.Regions.{unmapped, with_region, forget_between, is_unspecified};
-ghost use Rattle.mem_pages.specs.Page.{maps, place_in, kept_in, shown, seen, KeepsBytes, Judges, kind_of_access};
+ghost use Rattle.mem_pages.specs.Page.{maps, place_in, kept_in, shown, seen, KeepsBytes, ShowsBytes, Judges, kind_of_access};
 
 use std::alloc::{AllocError, Global};
 use x86_values::Byte;
@@ -170,5 +170,26 @@ impl Page {
         ensures { Judges result (kind_of_access store) (place_in self.now) at count }
     {
         self.from <= at && at + count <= self.to && (self.can_write || !store)
+    }
+
+    /// Whether the byte of a place counts as unspecified, whatever is kept of it.
+    fn hides(&self, at: u32) -> bool
+        ensures { result ≡ (is_unspecified self.now.unset && ltb at self.now.low) }
+    {
+        self.is_stack() && at < self.low
+    }
+
+    /// The bytes of some places; none where they aren't kept, or where one of them may be hidden.
+    pub fn part(&self, at: u32, count: u32) -> Option<&[Byte]>
+        requires { at + count ≤ 4096 }
+        ensures { IfSome result (λ part. ShowsBytes (place_in self.now) at count part.now) }
+    {
+        if self.bytes.len() < PAGE as usize {
+            return None;
+        }
+        if self.hides(at) {
+            return None;
+        }
+        Some(&self.bytes[at as usize..(at + count) as usize])
     }
 }

@@ -19,13 +19,14 @@ pub struct Pages {
 }
 
 impl Pages {
-    ghost use Rattle.std.specs.Prelude.{◌≡◌, ℕ, ◌+◌, ◌/◌, ◌%◌, ◌<◌, ◌≤◌, Bool, true, false, Some, None, OnOk, OnErr};
+    ghost use Rattle.std.specs.Prelude.{◌≡◌, ℕ, ◌+◌, ◌/◌, ◌%◌, ◌<◌, ◌≤◌, Bool, true, false, Some, None, OnOk, OnErr, IfSome};
     ghost use Rattle.std.specs.Option.{option_map};
     ghost use Rattle.memory.specs.Memory as spec;
     ghost use Rattle.memory.specs.Memory.{Place, Load, allows};
     ghost use Rattle.mem_pages.specs.Regions.{unmapped, with_region, HasRoom, forget_between};
-    ghost use Rattle.mem_pages.specs.Page.{seen, Judges, kind_of_access};
-    ghost use Rattle.mem_pages.specs.Contents.{memory_in, is_kept, IsReady};
+    ghost use Rattle.mem_pages.specs.Page.{seen, ShowsBytes, Judges, kind_of_access};
+    ghost use Rattle.mem_pages.specs.Directory.{contents};
+    ghost use Rattle.mem_pages.specs.Contents.{memory_in, is_kept, IsReady, IsListed};
     ghost use Rattle.mem_pages.specs.Accesses.{byte_read, KeepsPages, SameMemory, Writes};
 
     /// No address is mapped.
@@ -77,6 +78,24 @@ impl Pages {
         }
     }
 
+    /// Whether the bytes of a page from an address on are what is kept of them, as far as `lowest` says.
+    pub(crate) fn is_ready(&self, at: u32) -> bool
+        ensures { result ≡ true → IsReady at self.now }
+    {
+        if self.lowest <= at {
+            return true;
+        }
+        !self.directory.is_stack(at)
+    }
+
+    /// The bytes of some places of a page, where they are kept as they are read.
+    pub(crate) fn part(&self, at: u32, count: u32) -> Option<&[Byte]>
+        requires { at % 4096 + count ≤ 4096 }
+        ensures { IfSome result (λ part. ShowsBytes (contents self.now.directory) at count part.now) }
+    {
+        self.directory.part(at, count)
+    }
+
     /// Lowers `lowest` to the start of the page of an address below it.
     fn lower(&mut self, at: u32)
         ensures same { SameMemory self.old self.new }
@@ -97,6 +116,7 @@ impl Pages {
         ensures same { SameMemory self.old self.new }
         ensures keeps { KeepsPages self.old self.new }
         ensures ready { IsReady at self.new }
+        ensures listed { IsListed at self.new }
     {
         if !self.directory.is_stack(at) {
             return;

@@ -1,9 +1,9 @@
 // The places of a directory, by their addresses.
-ghost use Rattle.std.specs.Prelude.{◌≡◌, ℕ, ◌+◌, ◌*◌, ◌/◌, ◌%◌, ◌<◌, ◌≤◌, Bool, true, false, OnOk, OnErr, Option, Some, None};
+ghost use Rattle.std.specs.Prelude.{◌≡◌, ℕ, ◌+◌, ◌*◌, ◌/◌, ◌%◌, ◌<◌, ◌≤◌, Bool, true, false, OnOk, OnErr, IfSome, Option, Some, None};
 ghost use Rattle.std.specs.Option.{option_map, is_some};
 ghost use Rattle.memory.specs.Memory.{Load, put, allows};
 ghost use Rattle.mem_pages.specs.Regions.{with_region, forget_between};
-ghost use Rattle.mem_pages.specs.Page.{shown, seen, IsOffStack, Judges, kind_of_access};
+ghost use Rattle.mem_pages.specs.Page.{shown, seen, IsOffStack, ShowsBytes, Judges, kind_of_access};
 ghost use Rattle.mem_pages.specs.Directory.{page_at, contents, keeps, KeepsPlaces, HasGrown};
 
 use crate::directory::Directory;
@@ -132,6 +132,17 @@ impl Directory {
                 page.map(start % PAGE, start % PAGE + (end - start), can_write, unset);
             }
             None => (),
+        }
+    }
+
+    /// The bytes of some places of a page; none where they aren't kept, or where one of them may be hidden.
+    pub fn part(&self, at: u32, count: u32) -> Option<&[Byte]>
+        requires { at % 4096 + count ≤ 4096 }
+        ensures { IfSome result (λ part. ShowsBytes (contents self.now) at count part.now) }
+    {
+        match self.page(at / PAGE) {
+            Some(page) => page.part(at % PAGE, count),
+            None => None,
         }
     }
 }

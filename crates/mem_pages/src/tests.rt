@@ -4,26 +4,41 @@ use std::test::Fail;
 use x86_values::{Byte, known, word_of};
 
 #[test]
-fn region_and_stack(rt: HostRuntime) -> Result<(), Fail> {
+fn a_region(rt: HostRuntime) -> Result<(), Fail> {
     let mut pages = Pages::new(rt.alloc());
     pages.add_region(4000, 9000, true, Byte::Known(7))?;
-    pages.add_region(16384, 24576, true, Byte::Unspecified)?;
     assert_eq!(rt; pages.read(8999), Ok(Byte::Known(7)));
     assert_eq!(rt; pages.read(9000), Err(PageFault::NotMapped));
     pages.write(4095, Byte::Known(1)).ok().ok_or("write")?;
-    pages.store(4094, 4, word_of(0x0403_0201)).ok().ok_or("store")?;
+    pages
+        .store(4094, 4, word_of(0x0403_0201))
+        .ok()
+        .ok_or("store")?;
     assert_eq!(rt; pages.read(4095), Ok(Byte::Known(2)));
-    assert_eq!(rt; pages.load(4094, 4).map(|word| known(word)), Some(Some(0x0403_0201)));
+    let loaded = pages.load(4094, 4).ok_or("load")?;
+    assert_eq!(rt; known(loaded), Some(0x0403_0201));
     pages.keep(8000, 200)?;
     pages.fill(8190, &[5, 6, 8]).ok().ok_or("fill")?;
     let mut copied = [0; 3];
     assert!(rt; pages.copy_known(8190, &mut copied));
     assert_eq!(rt; copied[2], 8);
+    assert_eq!(rt; pages.lend(8190, 2).is_ok(), true);
+    assert_eq!(rt; pages.lend(9000, 1).is_ok(), false);
+    Ok(())
+}
+
+#[test]
+fn a_stack(rt: HostRuntime) -> Result<(), Fail> {
+    let mut pages = Pages::new(rt.alloc());
+    pages.add_region(16384, 24576, true, Byte::Unspecified)?;
     pages.store(20478, 4, word_of(9)).ok().ok_or("push")?;
     pages.forget_below(20480);
     assert_eq!(rt; pages.read(20479), Ok(Byte::Unspecified));
     assert_eq!(rt; pages.read(20481), Ok(Byte::Known(0)));
-    pages.write(16384, Byte::Known(3)).ok().ok_or("write below")?;
+    pages
+        .write(16384, Byte::Known(3))
+        .ok()
+        .ok_or("write below")?;
     assert_eq!(rt; pages.read(20479), Ok(Byte::Unspecified));
     assert_eq!(rt; pages.read(20480), Ok(Byte::Known(0)));
     Ok(())

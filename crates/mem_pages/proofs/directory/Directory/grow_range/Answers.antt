@@ -1,4 +1,4 @@
-use Rattle.std.proofs.Common.{arith, ◌∙◌}
+use Rattle.std.proofs.Common.{◌∙◌}
 use Rattle.mem_pages.proofs.directory.Directory.grow_range.Goals as goal
 use Rattle.mem_pages.proofs.Parts.{none_grown, more_grown, grown_contents, grown_keeps, keeps_then}
 

@@ -1,4 +1,4 @@
-use Rattle.std.proofs.Common.{◌/◌, ◌∙◌}
+use Rattle.std.proofs.Common.{◌/◌}
 use Rattle.mem_pages.proofs.directory.Directory.map_part.Goals as goal
 use Rattle.mem_pages.proofs.Lifting.{holds, map_lifted, free_there, keeps_lifted, unmapped_is_not_kept, some_pages}
 

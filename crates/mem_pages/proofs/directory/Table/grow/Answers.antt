@@ -1,5 +1,5 @@
 use Rattle.mem_pages.proofs.directory.Table.grow.Goals as goal
-use Rattle.mem_pages.proofs.Tables.{same_pages, one_more_page, grown_or_same}
+use Rattle.mem_pages.proofs.Tables.{same_pages, one_more_page}
 
 pub pages-init : goal.pages-init
 pages-init c = same_pages c.args.self.now.pages.items

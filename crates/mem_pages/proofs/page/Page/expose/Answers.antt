@@ -1,4 +1,4 @@
-use Rattle.std.proofs.Common.{arith, sym}
+use Rattle.std.proofs.Common.{arith}
 use Rattle.mem_pages.proofs.page.Page.expose.Goals as goal
 use Rattle.mem_pages.proofs.PageSteps.{exposed, same_kept}
 

@@ -1,4 +1,4 @@
-use Rattle.std.proofs.Common.{arith, sym, refl}
+use Rattle.std.proofs.Common.{arith, refl}
 use Rattle.mem_pages.proofs.page.Page.forget.Goals as goal
 use Rattle.mem_pages.proofs.PageSteps.{forgets_off_stack, forgets_by_clearing, forgets_by_low, forgets_already, same_kept}
 

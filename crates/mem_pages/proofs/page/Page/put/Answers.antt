@@ -1,7 +1,6 @@
-use Rattle.std.proofs.Common.{arith, sym, refl, ◌∙◌, ap}
+use Rattle.std.proofs.Common.{arith, ◌∙◌}
 use Rattle.std.proofs.Math.ListN.{length-set}
 use Rattle.mem_pages.proofs.page.Page.put.Goals as goal
-use Rattle.mem_pages.specs.Page.{kept_in}
 use Rattle.mem_pages.proofs.PageSteps.{puts, put_alike, same_kept, kept_is_within}
 
 pub index_mut-requires : goal.index_mut-requires

@@ -1,4 +1,4 @@
-use Rattle.std.proofs.Common.{arith, refl}
+use Rattle.std.proofs.Common.{refl}
 use Rattle.mem_pages.proofs.pages.Pages.add_region.Goals as goal
 use Rattle.mem_pages.proofs.PageSteps.{on_error}
 use Rattle.mem_pages.proofs.Parts as parts

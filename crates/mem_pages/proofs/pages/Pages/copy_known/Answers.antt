@@ -1,7 +1,4 @@
-use Rattle.std.proofs.Common.{arith, sym, ◌∙◌, ◌+◌, ap, refl}
-use Rattle.memory.specs.Memory.{byte_of, wrapped}
-use Rattle.x86_values.specs.Words.{known_byte}
-use Rattle.mem_pages.specs.Page.{known_there}
+use Rattle.std.proofs.Common.{arith, sym, ◌∙◌, refl}
 use Rattle.mem_pages.specs.Contents.{memory_in}
 use Rattle.mem_pages.proofs.pages.Pages.copy_known.Goals as goal
 use Rattle.mem_pages.proofs.Runs.{none_copied, more_copied, not_all_known, byte_there}

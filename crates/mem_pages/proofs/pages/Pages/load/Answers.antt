@@ -1,6 +1,4 @@
 use Rattle.std.proofs.Common.{arith, ◌≡◌, ◌∙◌, refl}
-use Rattle.x86_values.specs.declared.byte.Byte.TheVariants.{Known}
-use Rattle.mem_pages.specs.Page.{joined}
 use Rattle.mem_pages.specs.Contents.{memory_in}
 use Rattle.mem_pages.proofs.pages.Pages.load.Goals as goal
 use Rattle.mem_pages.proofs.Runs.{loads_one, loads_two, loads_four, byte_here, joins}

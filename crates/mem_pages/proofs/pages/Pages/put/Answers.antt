@@ -13,4 +13,4 @@ pub returns-clause-keeps : goal.returns-clause-keeps
 returns-clause-keeps c = keeps_then c.args.self.now c.ready.new.self _ c.ready.ensures.keeps (keeps_pages c.ready.new.self _ c.put.ensures.keeps)
 
 pub invariant_of-self : goal.invariant_of-self
-invariant_of-self c = record { quiet = quiet_put c.ready.new.self.exposed c.ready.new.self.directory c.put.new.self c.args.at c.args.byte c.ready.ensures.ready.listed c.put.ensures.places c.ready.new.self.quiet }
+invariant_of-self c = record { quiet = quiet_put c.ready.new.self.exposed c.ready.new.self.directory c.put.new.self c.args.at c.args.byte c.ready.ensures.listed.off c.put.ensures.places c.ready.new.self.quiet }

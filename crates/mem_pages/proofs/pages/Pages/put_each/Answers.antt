@@ -1,5 +1,4 @@
 use Rattle.std.proofs.Common.{arith, refl}
-use Rattle.x86_values.specs.declared.byte.Byte.TheVariants.{Unspecified}
 use Rattle.mem_pages.proofs.pages.Pages.put_each.Goals as goal
 use Rattle.mem_pages.proofs.Runs.{none_put, more_put}
 
