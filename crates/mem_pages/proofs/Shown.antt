@@ -16,27 +16,31 @@ use Rattle.mem_pages.specs.Directory.{page_at, contents, keeps, KeepsPlaces, pla
 use Rattle.mem_pages.specs.Contents.{memory_in, is_kept, IsReady}
 use Rattle.mem_pages.specs.Accesses.{byte_read, KeepsPages, SameMemory}
 use Rattle.mem_pages.proofs.Parts.{forget_joined}
+use Rattle.mem_pages.proofs.Swept.{forgotten_twice}
 
 pub at_place : (p : Pages) (a : ℕ) → memory_in p a ≡ shown (ltb a p.lowest) (contents p.directory a)
 unfolding memory_in forget_below
 at_place p a = refl
 
-pub nothing_in : (d : Directory) → ((n : ℕ) → page_at d n ≡ None) → memory_in (record { directory = d; lowest = 0 }) ≡ unmapped
+pub nothing_in : (p : Pages) → ((n : ℕ) → page_at p.directory n ≡ None) → memory_in p ≡ unmapped
 unfolding memory_in forget_below contents
-nothing_in d h = λ i a. (ap (λ o. shown (ltb a 0) (place_on o (a % 4096))) (h (a / 4096)) ∙ none (ltb a 0)) i
+nothing_in p h = λ i a. (ap (λ o. shown (ltb a p.lowest) (place_on o (a % 4096))) (h (a / 4096)) ∙ none (ltb a p.lowest)) i
   where
     none : (t : Bool) → shown t None ≡ None
     none true = refl
     none false = refl
 
 -- ---- directories with the same places
-pub same_places : (p : Pages) (d : Directory) → ((a : ℕ) → contents d a ≡ contents p.directory a) → memory_in (record p { directory = d }) ≡ memory_in p
-unfolding memory_in forget_below
-same_places p d h = λ i a. ap (shown (ltb a p.lowest)) (h a) i
+-- the place at an address, of pages with this `lowest`
+at_lowest : (q : Pages) (low a : ℕ) → q.lowest ≡ low → memory_in q a ≡ shown (ltb a low) (contents q.directory a)
+at_lowest q low a e = at_place q a ∙ ap (λ l. shown (ltb a l) (contents q.directory a)) e
 
-pub keeps_pages : (p : Pages) (d : Directory) (low : ℕ) → KeepsPlaces p.directory d → KeepsPages p (record { directory = d; lowest = low })
+pub same_places : (p q : Pages) → q.lowest ≡ p.lowest → ((a : ℕ) → contents q.directory a ≡ contents p.directory a) → memory_in q ≡ memory_in p
+same_places p q e h = λ i a. (at_lowest q p.lowest a e ∙ ap (shown (ltb a p.lowest)) (h a) ∙ sym (at_place p a)) i
+
+pub keeps_pages : (p q : Pages) → KeepsPlaces p.directory q.directory → KeepsPages p q
 unfolding is_kept
-keeps_pages p d low h = record { kept = h.kept }
+keeps_pages p q h = record { kept = h.kept }
 
 pub same_memory : (p : Pages) → SameMemory p p
 same_memory p = record { memory = refl }
@@ -54,9 +58,9 @@ region_shown true true w Unspecified o = refl
 region_shown true false w b o = refl
 region_shown false u w b o = refl
 
-pub region_added : (p : Pages) (d e : Directory) (start end : ℕ) (w : Bool) (b : Byte) → ((a : ℕ) → contents d a ≡ contents p.directory a) → ((a : ℕ) → contents e a ≡ with_region start end w b (contents d) a) → memory_in (record p { directory = e }) ≡ with_region start end w b (memory_in p)
+pub region_added : (p q : Pages) (d : Directory) (start end : ℕ) (w : Bool) (b : Byte) → q.lowest ≡ p.lowest → ((a : ℕ) → contents d a ≡ contents p.directory a) → ((a : ℕ) → contents q.directory a ≡ with_region start end w b (contents d) a) → memory_in q ≡ with_region start end w b (memory_in p)
 unfolding memory_in forget_below with_region
-region_added p d e start end w b same places = λ i a. (ap (shown (ltb a p.lowest)) (places a ∙ ap (cond (leb start a && ltb a end) (Some (region_place w b))) (same a)) ∙ region_shown (leb start a && ltb a end) (ltb a p.lowest) w b (contents p.directory a)) i
+region_added p q d start end w b e same places = λ i a. (at_lowest q p.lowest a e ∙ ap (shown (ltb a p.lowest)) (places a ∙ ap (cond (leb start a && ltb a end) (Some (region_place w b))) (same a)) ∙ region_shown (leb start a && ltb a end) (ltb a p.lowest) w b (contents p.directory a)) i
 
 none_shown : (t : Bool) (o : Option Place) → shown t o ≡ None → o ≡ None
 none_shown true None h = refl
@@ -79,9 +83,9 @@ idempotent true false o h = refl
 idempotent false true o h = absurd (false≢true (h refl))
 idempotent false false o h = refl
 
-pub forgets_below : (p : Pages) (end : ℕ) → p.lowest < end → memory_in (record p { lowest = end }) ≡ forget_below end (memory_in p)
+pub forgets_below : (p q : Pages) (end : ℕ) → q.lowest ≡ end → q.directory ≡ p.directory → p.lowest < end → memory_in q ≡ forget_below end (memory_in p)
 unfolding memory_in forget_below
-forgets_below p end l = λ i a. idempotent (ltb a end) (ltb a p.lowest) (contents p.directory a) (λ h. lt-ltb a end (omega (arith, ltb-true a p.lowest h))) i
+forgets_below p q end e s l = λ i a. (at_lowest q end a e ∙ ap (λ d. shown (ltb a end) (contents d a)) s ∙ idempotent (ltb a end) (ltb a p.lowest) (contents p.directory a) (λ h. lt-ltb a end (omega (arith, ltb-true a p.lowest h)))) i
 
 already : (t u : Bool) (o : Option Place) → (t ≡ true → u ≡ true) → shown u o ≡ cond t (forgotten (shown u o)) (shown u o)
 already true true o h = idempotent true true o (λ x. x)
@@ -97,9 +101,9 @@ either_order true true o = refl
 either_order true false o = refl
 either_order false u o = refl
 
-pub forgets_between : (p : Pages) (d : Directory) (start end : ℕ) → ((a : ℕ) → contents d a ≡ forget_between start end (contents p.directory) a) → memory_in (record p { directory = d }) ≡ forget_between start end (memory_in p)
+pub forgets_between : (p q : Pages) (start end : ℕ) → q.lowest ≡ p.lowest → ((a : ℕ) → contents q.directory a ≡ forget_between start end (contents p.directory) a) → memory_in q ≡ forget_between start end (memory_in p)
 unfolding memory_in forget_below forget_between
-forgets_between p d start end h = λ i a. (ap (shown (ltb a p.lowest)) (h a) ∙ either_order (leb start a && ltb a end) (ltb a p.lowest) (contents p.directory a)) i
+forgets_between p q start end e h = λ i a. (at_lowest q p.lowest a e ∙ ap (shown (ltb a p.lowest)) (h a) ∙ either_order (leb start a && ltb a end) (ltb a p.lowest) (contents p.directory a)) i
 
 pub forgets_nothing : (p : Pages) (start end : ℕ) → end ≤ start → memory_in p ≡ forget_between start end (memory_in p)
 unfolding forget_between
@@ -108,15 +112,24 @@ forgets_nothing p start end l = λ i a. sym (cond-false (leb start a && ltb a en
     no_range : (start end a : ℕ) → end ≤ start → (leb start a && ltb a end) ≡ false
     no_range start end a l = grind (arith, nat_tests)
 
-either_part : (a low high : ℕ) → low ≤ high → ltb a high ≡ (ltb a low || (leb low a && ltb a high))
-either_part a low high l = grind (arith, nat_tests)
+-- what is forgotten below `high` is so, whatever of it is shown below `low`
+still_forgotten : (t u : Bool) (o : Option Place) → (t ≡ true → u ≡ true) → shown t (cond u (forgotten o) o) ≡ shown u o
+still_forgotten true true o h = forgotten_twice o
+still_forgotten true false o h = absurd (false≢true (h refl))
+still_forgotten false u o h = refl
 
-apart : (a low high : ℕ) → ltb a low ≡ true → (leb low a && ltb a high) ≡ false
-apart a low high h = grind (arith, nat_tests)
+two_parts : (a mid high : ℕ) (o : Option Place) → mid ≤ high → cond (leb mid a && ltb a high) (forgotten (cond (leb 0 a && ltb a mid) (forgotten o) o)) (cond (leb 0 a && ltb a mid) (forgotten o) o) ≡ cond (ltb a high) (forgotten o) o
+two_parts a mid high o l = forget_joined _ _ o (apart a mid high) ∙ ap (λ t. cond t (forgotten o) o) (joined a mid high l)
+  where
+    joined : (a mid high : ℕ) → mid ≤ high → ((leb mid a && ltb a high) || (leb 0 a && ltb a mid)) ≡ ltb a high
+    joined a mid high l = grind (arith, nat_tests)
+    apart : (a mid high : ℕ) → (leb mid a && ltb a high) ≡ true → (leb 0 a && ltb a mid) ≡ false
+    apart a mid high h = grind (arith, nat_tests)
 
-pub lowered : (p : Pages) (d : Directory) (low : ℕ) → low ≤ p.lowest → ((a : ℕ) → contents d a ≡ forget_between low p.lowest (contents p.directory) a) → memory_in (record { directory = d; lowest = low }) ≡ memory_in p
-unfolding memory_in forget_below forget_between
-lowered p d low l h = λ i a. (ap (shown (ltb a low)) (h a) ∙ forget_joined (ltb a low) (leb low a && ltb a p.lowest) (contents p.directory a) (apart a low p.lowest) ∙ ap (λ t. shown t (contents p.directory a)) (sym (either_part a low p.lowest l))) i
+-- the pages below that of `lowest` are forgotten, and then its front
+pub lowered : (p q : Pages) (d : Directory) (mid : ℕ) → q.lowest ≤ p.lowest → mid ≤ p.lowest → ((a : ℕ) → contents d a ≡ forget_between 0 mid (contents p.directory) a) → ((a : ℕ) → contents q.directory a ≡ forget_between mid p.lowest (contents d) a) → memory_in q ≡ memory_in p
+unfolding forget_between
+lowered p q d mid l m h k = λ i a. (at_place q a ∙ ap (shown (ltb a q.lowest)) (k a ∙ ap (λ o. cond (leb mid a && ltb a p.lowest) (forgotten o) o) (h a) ∙ two_parts a mid p.lowest (contents p.directory a) m) ∙ still_forgotten (ltb a q.lowest) (ltb a p.lowest) (contents p.directory a) (λ t. lt-ltb a p.lowest (omega (arith, ltb-true a q.lowest t))) ∙ sym (at_place p a)) i
 
 -- ---- one byte
 off_stack_same : (o : Option Place) → ((p : Place) → o ≡ Some p → p.on_stack ≡ false) → forgotten o ≡ o
@@ -132,9 +145,9 @@ put_shown true true b o h = off_stack_with b o (h refl refl) ∙ ap (with_byte b
 put_shown true false b o h = refl
 put_shown false u b o h = refl
 
-pub put_byte : (p : Pages) (d : Directory) (at : ℕ) (b : Byte) → IsReady at p → ((a : ℕ) → contents d a ≡ put at b (contents p.directory) a) → memory_in (record p { directory = d }) ≡ put at b (memory_in p)
+pub put_byte : (p q : Pages) (at : ℕ) (b : Byte) → q.lowest ≡ p.lowest → IsReady at p → ((a : ℕ) → contents q.directory a ≡ put at b (contents p.directory) a) → memory_in q ≡ put at b (memory_in p)
 unfolding memory_in forget_below put
-put_byte p d at b ready h = λ i a. (ap (shown (ltb a p.lowest)) (h a) ∙ put_shown (a == at) (ltb a p.lowest) b (contents p.directory a) (λ e l q f. let s = eqb-true a at e in (ready.off (omega (arith, s, ltb-true a p.lowest l))).off at q refl (ap (contents p.directory) (sym s) ∙ f))) i
+put_byte p q at b e ready h = λ i a. (at_lowest q p.lowest a e ∙ ap (shown (ltb a p.lowest)) (h a) ∙ put_shown (a == at) (ltb a p.lowest) b (contents p.directory a) (λ e l q f. let s = eqb-true a at e in (ready.off (omega (arith, s, ltb-true a p.lowest l))).off at q refl (ap (contents p.directory) (sym s) ∙ f))) i
 
 pub put_after : (at : ℕ) (b : Byte) (m n : Memory) → m ≡ n → put at b m ≡ put at b n
 put_after at b m n e = ap (put at b) e
@@ -159,10 +172,10 @@ pub writable_in : (p : Pages) (a : ℕ) → option_map (λ (q : Place). q.can_wr
 unfolding memory_in forget_below
 writable_in p a = shown_writable (ltb a p.lowest) (contents p.directory a)
 
-pub kept_pages : {A E : Type 0} (r : Result A E) (p : Pages) (d : Directory) (at : ℕ) → OnOk r ((a : ℕ) → a / 4096 ≡ at / 4096 → allows Load (contents p.directory a) ≡ true → keeps d a ≡ true) → OnOk r ((a : ℕ) → a / 4096 ≡ at / 4096 → allows Load (memory_in p a) ≡ true → is_kept (record p { directory = d }) a ≡ true)
+pub kept_pages : {A E : Type 0} (r : Result A E) (p q : Pages) (at : ℕ) → OnOk r ((a : ℕ) → a / 4096 ≡ at / 4096 → allows Load (contents p.directory a) ≡ true → keeps q.directory a ≡ true) → OnOk r ((a : ℕ) → a / 4096 ≡ at / 4096 → allows Load (memory_in p a) ≡ true → is_kept q a ≡ true)
 unfolding is_kept
-kept_pages (Err e) p d at h = tt
-kept_pages (Ok x) p d at h = λ a s l. h a s (sym (allowed_in p Load a) ∙ l)
+kept_pages (Err e) p q at h = tt
+kept_pages (Ok x) p q at h = λ a s l. h a s (sym (allowed_in p Load a) ∙ l)
 
 pub not_kept : {A E : Type 0} (r : Result A E) (p : Pages) (at : ℕ) → OnErr r (keeps p.directory at ≡ false) → OnErr r (is_kept p at ≡ false)
 unfolding is_kept

@@ -4,12 +4,14 @@
 mod access;
 mod directory;
 mod end;
+mod exposed;
 mod fault;
 mod lend;
 mod page;
 mod pages;
 mod places;
 mod ranges;
+mod sweep;
 #[cfg(test)]
 mod tests;
 

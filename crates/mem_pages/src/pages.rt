@@ -1,28 +1,34 @@
 // Pages: a directory of pages, and the address below which no byte of the stack is known.
-ghost use Rattle.std.specs.Prelude.{◌≡◌, ℕ, ◌+◌, ◌/◌, ◌%◌, ◌<◌, ◌≤◌, Bool, true, false, Some, None, OnOk, OnErr, IfSome};
-ghost use Rattle.std.specs.Option.{option_map};
-ghost use Rattle.memory.specs.Memory as spec;
-ghost use Rattle.memory.specs.Memory.{Place, Load, allows};
-ghost use Rattle.mem_pages.specs.Regions.{unmapped, with_region, HasRoom, forget_between};
-ghost use Rattle.mem_pages.specs.Page.{seen, ShowsBytes, Judges, kind_of_access};
-ghost use Rattle.mem_pages.specs.Directory.{contents};
-ghost use Rattle.mem_pages.specs.Contents.{memory_in, is_kept, IsReady};
-ghost use Rattle.mem_pages.specs.Accesses.{byte_read, KeepsPages, SameMemory, Writes};
+ghost use Rattle.mem_pages.specs.Exposed.{IsQuiet};
 
 use crate::PageFault;
 use crate::directory::Directory;
+use crate::exposed::Exposed;
 use crate::page::PAGE;
+use crate::sweep::sweep;
 use std::alloc::{AllocError, Global};
 use x86_values::Byte;
 
-/// Memory in pages.
+/// Memory in pages. Each byte of the stack below `lowest` is unspecified, and each in a page that `exposed` doesn't list.
 #[derive(Drop)]
 pub struct Pages {
     directory: Directory,
     lowest: u32,
+    exposed: Exposed,
+    ghost quiet: { IsQuiet exposed directory },
 }
 
 impl Pages {
+    ghost use Rattle.std.specs.Prelude.{◌≡◌, ℕ, ◌+◌, ◌/◌, ◌%◌, ◌<◌, ◌≤◌, Bool, true, false, Some, None, OnOk, OnErr, IfSome};
+    ghost use Rattle.std.specs.Option.{option_map};
+    ghost use Rattle.memory.specs.Memory as spec;
+    ghost use Rattle.memory.specs.Memory.{Place, Load, allows};
+    ghost use Rattle.mem_pages.specs.Regions.{unmapped, with_region, HasRoom, forget_between};
+    ghost use Rattle.mem_pages.specs.Page.{seen, ShowsBytes, Judges, kind_of_access};
+    ghost use Rattle.mem_pages.specs.Directory.{contents};
+    ghost use Rattle.mem_pages.specs.Contents.{memory_in, is_kept, IsReady, IsListed};
+    ghost use Rattle.mem_pages.specs.Accesses.{byte_read, KeepsPages, SameMemory, Writes};
+
     /// No address is mapped.
     pub fn new(alloc: Global) -> Pages
         ensures { memory_in result ≡ unmapped }
@@ -30,6 +36,7 @@ impl Pages {
         Pages {
             directory: Directory::empty(alloc),
             lowest: 0,
+            exposed: Exposed::none(alloc),
         }
     }
 
@@ -89,21 +96,33 @@ impl Pages {
         self.directory.part(at, count)
     }
 
-    /// Makes the stack's bytes below an address known ones again, as far as they are.
-    fn ready(&mut self, at: u32)
+    /// Lowers `lowest` to the start of the page of an address below it.
+    fn lower(&mut self, at: u32)
         ensures same { SameMemory self.old self.new }
         ensures keeps { KeepsPages self.old self.new }
-        ensures ready { IsReady at self.new }
+        ensures lowered { self.new.lowest ≤ at }
     {
         if self.lowest <= at {
             return;
         }
+        let page = self.lowest / PAGE;
+        sweep(&mut self.directory, &mut self.exposed, page);
+        self.directory.forget_part(PAGE * page, self.lowest);
+        self.lowest = at - at % PAGE;
+    }
+
+    /// Lets the byte at an address be known, also where it is one of the stack below `lowest`.
+    fn ready(&mut self, at: u32)
+        ensures same { SameMemory self.old self.new }
+        ensures keeps { KeepsPages self.old self.new }
+        ensures ready { IsReady at self.new }
+        ensures listed { IsListed at self.new }
+    {
         if !self.directory.is_stack(at) {
             return;
         }
-        let start = at - at % PAGE;
-        self.directory.forget(start, self.lowest);
-        self.lowest = start;
+        self.lower(at);
+        self.exposed.add(at / PAGE);
     }
 
     /// Makes the byte of a place another.
