@@ -11,3 +11,5 @@ mod hosts;
 mod refusals;
 #[cfg(test)]
 mod rewriting;
+#[cfg(test)]
+mod running;
