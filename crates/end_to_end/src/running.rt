@@ -137,7 +137,7 @@ fn runs_procedures(rt: HostRuntime) -> Result<(), Fail> {
             written: &[],
             end: RunEnd::Exited(5),
         },
-        // mov eax, 2024805; add eax, eax; call eax: HLT stands behind
+        // mov eax, 4024805; add eax, eax; call eax, which leads into the next instruction, where bytes 00 00 store into the code
         Run {
             name: "calls into its code",
             text: b"\xB8\x05\x48\x02\x04\x01\xC0\xFF\xD0\xBB\0\0\0\0\xB8\x01\0\0\0\xCD\x80\xF4",
