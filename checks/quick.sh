@@ -5,7 +5,7 @@ set -u
 folder=$(dirname "$(readlink -f "$0")")
 failures=0
 
-for name in start_script.sh run_on_linux.sh no_executable_data.sh written_files_beside_readelf.sh refused_allocations.sh; do
+for name in start_script.sh run_on_linux.sh run_on_machine.sh no_executable_data.sh written_files_beside_readelf.sh refused_allocations.sh; do
     said=$("$folder/$name" 2>&1)
     case $? in
         0) echo "ok       checks/$name" ;;
