@@ -36,7 +36,7 @@ for kind in "" .new; do
     check "jumps$kind ends with 5" runs 5 "" "" run "jumps$kind"
     check "other_call$kind: 117 with the call's number" runs 117 "sw: call 20" "" run "other_call$kind"
     check "echo_byte$kind echoes a byte" runs 0 "" K run "echo_byte$kind" <<<K
-    check "echo_byte$kind at the end of its input" runs 0 "" "" run "echo_byte$kind" </dev/null
+    check "echo_byte$kind at the end of its input writes the zero that is there" runs 0 "" "\0" run "echo_byte$kind" </dev/null
     check "echo_byte$kind without a standard input" runs 0 "" "\0" run "echo_byte$kind" <&-
     check "hello$kind: two steps are not enough" runs 119 "sw: steps spent" "" run-steps 2 "hello$kind"
 done
