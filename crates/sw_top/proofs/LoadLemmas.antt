@@ -1,5 +1,5 @@
 -- What the load of IN gave, where a file of at most so many bytes is wanted.
-use Rattle.std.proofs.Common.{◌≡◌, ℕ, ◌+◌, ◌<◌, ◌≤◌, min, false, Bool, true, cond, List, length, take, Option, option_map, Result, Ok, Err, Some, None, Vec, refl, sym, ap, ◌∙◌, subst, arith, length-take}
+use Rattle.std.proofs.Common.{◌≡◌, ℕ, ◌+◌, ◌<◌, ◌≤◌, min, false, Bool, true, cond, List, length, take, Option, option_map, Ok, Err, Some, None, Vec, refl, ap, ◌∙◌, subst, arith, length-take}
 use Rattle.std.proofs.lemmas.List.{take_all}
 use Rattle.std.specs.FinMap.{get}
 use Rattle.std.specs.declared.alloc.Global.{Global}
