@@ -18,10 +18,10 @@ chosen false v n e = cc
 taken : (b c : Bool) (v : ℕ) → b ≡ true → c ≡ true → cond (b && c) (Some v) None ≡ Some v
 taken b c v p q = rw (p, q) refl
 
-leb_is : (a b : ℕ) → leb a b ≡ true → a ≤ b
+pub leb_is : (a b : ℕ) → leb a b ≡ true → a ≤ b
 leb_is a b e = grind (arith, nat_tests)
 
-is_leb : (a b : ℕ) → a ≤ b → leb a b ≡ true
+pub is_leb : (a b : ℕ) → a ≤ b → leb a b ≡ true
 is_leb a b h = grind (arith, nat_tests)
 
 small : (n : ℕ) → n ≤ most_steps → n < 2 ^ 64
