@@ -3,7 +3,6 @@ use Rattle.std.proofs.Common.{◌≡◌, ◌≤◌, ℕ, Bool, true, false, cond
 use Rattle.std.proofs.lemmas.Slice.Eq.{bytes_eq-Decides}
 use Rattle.sw_top.specs.declared.command.Names.{Names}
 use Rattle.sw_top.specs.declared.command.Running.{Running}
-use Rattle.sw_top.specs.declared.command.Command.{Command}
 use Rattle.sw_top.specs.declared.command.Command.TheVariants.{Rewrite, Run}
 use Rattle.sw_top.specs.Stacks.{stack_size, greatest_stack}
 use Rattle.sw_top.specs.Commands.{rewrite_of, run_of, run_with, run_steps_of, steps_of, plain_steps, most_steps, command_of}
