@@ -1,7 +1,5 @@
 -- Which answer comes: what was loaded, and how it was judged, leaves no other.
-use Rattle.std.proofs.Common.{◌≡◌, ◌<◌, ◌≤◌, inl, inr, ℕ, min, Bool, true, false, cond, option_map, length-take, List, take, length, Option, Some, None, Ok, refl, sym, ap, ◌∙◌, subst, arith}
-use Rattle.std.proofs.lemmas.List.{take_all}
-use Rattle.std.specs.FinMap.{get}
+use Rattle.std.proofs.Common.{◌≡◌, inl, inr, ℕ, List, Option, Some, None, Ok, refl, sym, ap, ◌∙◌, subst}
 use Rattle.elf_image.specs.declared.refusal.Refusal.{Refusal}
 use Rattle.image.specs.declared.room.Room.TheVariants.{Source}
 use Rattle.image.specs.declared.image.Image.{Image}
@@ -11,12 +9,13 @@ use Rattle.elf_image.specs.Plain.{PlainIsAccepted}
 use Rattle.rewrite_core.specs.Met.{IsRewritable}
 use Rattle.rewrite_core.specs.Rewrites.{IsWritten, IsRefused, by_image, not_yet}
 use Rattle.sw_host.specs.Told.{Told}
-use Rattle.sw_host.specs.Calls.{called, fails, loaded, with_file}
+use Rattle.sw_host.specs.Calls.{called, fails, with_file}
 use Rattle.sw_host.specs.Laws.{FailsAlike}
 use Rattle.sw_top.specs.declared.command.Names.{Names}
 use Rattle.sw_top.specs.declared.end.End.{End}
 use Rattle.sw_top.specs.declared.end.End.TheVariants.{Done, Ran, Usage, TooLong, Refused, Host, Memory}
-use Rattle.sw_top.specs.Rewriting.{input, limit, greatest_size, stored_out, IsInput, IsOverlong, IsLoaded, Fails, load_fails, out_fails, map_fails, PerformsRewrite}
+use Rattle.sw_top.specs.Rewriting.{input, greatest_size, stored_out, IsInput, IsOverlong, IsLoaded, Fails, load_fails, out_fails, map_fails, PerformsRewrite}
+use Rattle.sw_top.proofs.LoadLemmas.{whole_has, longer_has, has_whole, has_longer, one_whole, not_none, longer_not_none, not_longer}
 use Rattle.sw_top.specs.RewriteOutcome.{IsGiven, IsOrMemory, BothStore, OneStoreFails, AnswersRewrite}
 
 no_refusal : (file : List ℕ) (o : Option Refusal) (image : Image) → image_if file o ≡ Ok image → o ≡ None
@@ -45,54 +44,6 @@ one_refusal file r q (by_image e) (by_image f) = cc
 one_refusal file r q (by_image e) (not_yet is f unfit) = cc
 one_refusal file r q (not_yet is e unfit) (by_image f) = cc
 one_refusal file r q (not_yet is e unfit) (not_yet was f misfit) = cc
-
--- what a load gives is one of three
-module _ (names : Names) (a : Told) where
-  given : (file : List ℕ) → IsInput names a file → input names a ≡ None → ⊥
-  given file p e = let gave = p.gave in cc
-
-  given_front : IsOverlong names a → input names a ≡ None → ⊥
-  given_front p e = let gave = p.gave in cc
-
-  one_input : (file other : List ℕ) → IsInput names a file → IsInput names a other → other ≡ file
-  one_input file other p q = let one = p.gave in let two = q.gave in cc
-
-  not_both : (file : List ℕ) → IsInput names a file → IsOverlong names a → ⊥
-  not_both file p q =
-      let one = p.gave in
-      let two = q.gave in
-      let same : q.front ≡ file = cc in
-      let size = subst (λ f. length f ≡ limit) same q.full in
-      omega (arith, size, p.fits)
-
--- a load that gave something wasn't to fail
-gives : (n : ℕ) (b : Bool) (o : Option (List ℕ)) (front : List ℕ) → cond b None (option_map (take n) o) ≡ Some front → b ≡ false
-gives n true o front e = cc
-gives n false o front e = refl
-
-loads : (names : Names) (a : Told) (front : List ℕ) → input names a ≡ Some front → fails (called a) ≡ false
-unfolding loaded
-loads names a front e = gives limit (fails (called a)) (get (called a).files names.from) front e
-
-given_input : (names : Names) (a : Told) (file : List ℕ) → IsInput names a file → IsGiven names a file
-given_input names a file p = record { loads = loads names a file p.gave; whole = p.whole }
-
-given_overlong : (names : Names) (a : Told) → (o : IsOverlong names a) → IsGiven names a o.file
-given_overlong names a o = record { loads = loads names a o.front o.gave; whole = o.whole }
-
--- what the load of a file that is given gives
-pub front_of : (names : Names) (a : Told) (file : List ℕ) → IsGiven names a file → input names a ≡ Some (take limit file)
-unfolding loaded called
-front_of names a file g = rw (g.loads, g.whole) refl
-
-input_of : (names : Names) (a : Told) (file : List ℕ) → IsGiven names a file → length file ≤ greatest_size → IsInput names a file
-input_of names a file g h =
-    record { gave = front_of names a file g ∙ ap Some (take_all limit file (omega (arith, h))); fits = h; whole = g.whole }
-
-overlong_of : (names : Names) (a : Told) (file : List ℕ) → IsGiven names a file → greatest_size < length file → IsOverlong names a
-overlong_of names a file g h =
-    let size : length (take limit file) ≡ min limit (length file) = length-take limit file in
-    record { front = take limit file; gave = front_of names a file g; full = omega (arith, size, h); file = file; whole = g.whole; over = h }
 
 -- the store of MAP comes after that of OUT, and its number says whether it is to fail
 third : FailsAlike → (names : Names) (out : List ℕ) (a : Told) → fails (called (stored_out names out a)) ≡ fails (called (called (called a)))
@@ -129,33 +80,33 @@ not_each a both (inr e) = let z = both.map in cc
 
 module _ (names : Names) (a : Told) (end : End) where
   no_file : ((file : List ℕ) → IsGiven names a file → ⊥) → Found names a end → IsOrMemory Host end
-  no_file none (is_done is out l both) = absurd (none l.file (given_input names a l.file l.is_input))
-  no_file none (is_long is o) = absurd (none o.file (given_overlong names a o))
-  no_file none (is_refused file r is p h) = absurd (none file (given_input names a file p))
+  no_file none (is_done is out l both) = absurd (none l.file (whole_has greatest_size names.from a l.file l.is_input))
+  no_file none (is_long is o) = absurd (none o.file (longer_has greatest_size names.from a o))
+  no_file none (is_refused file r is p h) = absurd (none file (whole_has greatest_size names.from a file p))
   no_file none (is_unloaded is e) = inl is
   no_file none (is_unstored is out l one) = inl is
   no_file none (is_wanting is) = inr is
 
   too_long : IsOverlong names a → Found names a end → IsOrMemory TooLong end
-  too_long o (is_done is out l both) = absurd (not_both names a l.file l.is_input o)
+  too_long o (is_done is out l both) = absurd (not_longer greatest_size names.from a l.file l.is_input o)
   too_long o (is_long is p) = inl is
-  too_long o (is_refused file r is p h) = absurd (not_both names a file p o)
-  too_long o (is_unloaded is none) = absurd (given_front names a o none)
-  too_long o (is_unstored is out l one) = absurd (not_both names a l.file l.is_input o)
+  too_long o (is_refused file r is p h) = absurd (not_longer greatest_size names.from a file p o)
+  too_long o (is_unloaded is none) = absurd (longer_not_none greatest_size names.from a o none)
+  too_long o (is_unstored is out l one) = absurd (not_longer greatest_size names.from a l.file l.is_input o)
   too_long o (is_wanting is) = inr is
 
   module _ (file : List ℕ) (p : IsInput names a file) where
     written_here : (out : List ℕ) → (l : IsLoaded names a out) → IsWritten file out
-    written_here out l = subst (λ f. IsWritten f out) (one_input names a file l.file p l.is_input) l.written
+    written_here out l = subst (λ f. IsWritten f out) (one_whole greatest_size names.from a file l.file p l.is_input) l.written
 
     refused_here : (other : List ℕ) (q : Refusal) → IsInput names a other → IsRefused other q → IsRefused file q
-    refused_here other q i h = subst (λ f. IsRefused f q) (one_input names a file other p i) h
+    refused_here other q i h = subst (λ f. IsRefused f q) (one_whole greatest_size names.from a file other p i) h
 
     refused : (r : Refusal) → IsRefused file r → Found names a end → IsOrMemory (Refused r) end
     refused r h (is_done is out l both) = absurd (written_is_not_refused file out r (written_here out l) h)
-    refused r h (is_long is o) = absurd (not_both names a file p o)
+    refused r h (is_long is o) = absurd (not_longer greatest_size names.from a file p o)
     refused r h (is_refused other q is i g) = inl (is ∙ ap Refused (one_refusal file r q h (refused_here other q i g)))
-    refused r h (is_unloaded is none) = absurd (given names a file p none)
+    refused r h (is_unloaded is none) = absurd (not_none greatest_size names.from a file p none)
     refused r h (is_unstored is out l one) = absurd (written_is_not_refused file out r (written_here out l) h)
     refused r h (is_wanting is) = inr is
 
@@ -164,15 +115,15 @@ module _ (names : Names) (a : Told) (end : End) where
 
     done : PlainIsAccepted → IsRewritable file → (end ≡ Host → OneStoreFails a → ⊥) → Found names a end → IsOrMemory Done end
     done law t never (is_done is out l both) = inl is
-    done law t never (is_long is o) = absurd (not_both names a file p o)
+    done law t never (is_long is o) = absurd (not_longer greatest_size names.from a file p o)
     done law t never (is_refused other q is i g) = absurd (not_refused_here law t other q i g)
-    done law t never (is_unloaded is none) = absurd (given names a file p none)
+    done law t never (is_unloaded is none) = absurd (not_none greatest_size names.from a file p none)
     done law t never (is_unstored is out l one) = absurd (never is one)
     done law t never (is_wanting is) = inr is
 
     host : PlainIsAccepted → IsRewritable file → OneStoreFails a → Found names a end → IsOrMemory Host end
     host law t fault (is_done is out l both) = absurd (not_each a both fault)
-    host law t fault (is_long is o) = absurd (not_both names a file p o)
+    host law t fault (is_long is o) = absurd (not_longer greatest_size names.from a file p o)
     host law t fault (is_refused other q is i g) = absurd (not_refused_here law t other q i g)
     host law t fault (is_unloaded is none) = inl is
     host law t fault (is_unstored is out l one) = inl is
@@ -184,10 +135,10 @@ answers law alike names end rose a b cause s =
     record {
       no_file = λ none. no_file names a end none f;
       file = λ file g. record {
-        too_long = λ over. too_long names a end (overlong_of names a file g over) f;
-        refused = λ fits r h. refused names a end file (input_of names a file g fits) r h f;
-        done = λ fits t both. done names a end file (input_of names a file g fits) law t (λ e one. not_each a both one) f;
-        no_fault = λ fits t still. done names a end file (input_of names a file g fits) law t (λ e one. still (cause e)) f;
-        host = λ fits t one. host names a end file (input_of names a file g fits) law t one f;
+        too_long = λ over. too_long names a end (has_longer greatest_size names.from a file g over) f;
+        refused = λ fits r h. refused names a end file (has_whole greatest_size names.from a file g fits) r h f;
+        done = λ fits t both. done names a end file (has_whole greatest_size names.from a file g fits) law t (λ e one. not_each a both one) f;
+        no_fault = λ fits t still. done names a end file (has_whole greatest_size names.from a file g fits) law t (λ e one. still (cause e)) f;
+        host = λ fits t one. host names a end file (has_whole greatest_size names.from a file g fits) law t one f;
       };
     }

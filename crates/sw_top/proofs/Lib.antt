@@ -11,3 +11,4 @@ pub mod NumberLemmas
 pub mod LoadLemmas
 pub mod RunLemmas
 pub mod RunRowLemmas
+pub mod CommandLemmas

@@ -1,5 +1,5 @@
 -- What the load of IN gave, where a file of at most so many bytes is wanted.
-use Rattle.std.proofs.Common.{◌≡◌, ℕ, ◌+◌, ◌<◌, ◌≤◌, min, false, Bool, true, cond, List, length, take, Option, option_map, Result, Ok, Err, Some, None, Vec, refl, sym, ap, ◌∙◌, subst, arith, length-take}
+use Rattle.std.proofs.Common.{◌≡◌, ℕ, ◌+◌, ◌<◌, ◌≤◌, min, false, Bool, true, cond, List, length, take, Option, option_map, Ok, Err, Some, None, Vec, refl, sym, ap, ◌∙◌, subst, arith, length-take}
 use Rattle.std.proofs.lemmas.List.{take_all}
 use Rattle.std.specs.FinMap.{get}
 use Rattle.std.specs.declared.alloc.Global.{Global}
@@ -7,7 +7,40 @@ use Rattle.sw_host.specs.declared.host.HostFault.TheVariants.{Failed}
 use Rattle.sw_host.specs.Told.{Told}
 use Rattle.sw_host.specs.Calls.{called, fails, loaded, Loads}
 use Rattle.sw_top.specs.Loading.{front_of, IsWhole, IsLonger, HasFile}
-use Rattle.sw_top.proofs.TellLemmas.{loaded_whole, loaded_longer}
+
+-- a front that is shorter than it may be is the whole
+whole : (n : ℕ) (file full : List ℕ) → take n full ≡ file → length file < n → full ≡ file
+whole n file full e h =
+    let size : min n (length full) ≡ length file = sym (length-take n full) ∙ ap length e in
+    sym (take_all n full (omega (arith, size, h))) ∙ e
+
+had_file : (b : Bool) (o : Option (List ℕ)) (n : ℕ) (file : List ℕ) → cond b None (option_map (take n) o) ≡ Some file → length file < n → o ≡ Some file
+had_file true o n file e h = cc
+had_file false None n file e h = cc
+had_file false (Some full) n file e h = let same : take n full ≡ file = cc in ap Some (whole n file full same h)
+
+-- a load that gave fewer bytes than were asked for gave the file
+loaded_whole : (a : Told) (name : List ℕ) (n : ℕ) (file : List ℕ) → loaded (called a) name n ≡ Some file → length file < n → get a.files name ≡ Some file
+unfolding loaded called
+loaded_whole a name n file e h = had_file (fails (called a)) (get a.files name) n file e h
+
+-- a front that is longer than m is one of a file that is longer, and has all n bytes where n is the next number
+longer : (n m : ℕ) (front full : List ℕ) → take n full ≡ front → n ≡ m + 1 → m < length front → (length front ≡ n) × (m < length full)
+longer n m front full e next h =
+    let size : min n (length full) ≡ length front = sym (length-take n full) ∙ ap length e in
+    (omega (arith, size, next, h), omega (arith, size, next, h))
+
+had_longer : (b : Bool) (o : Option (List ℕ)) (n m : ℕ) (front : List ℕ) → cond b None (option_map (take n) o) ≡ Some front → n ≡ m + 1 → m < length front → (length front ≡ n) × (full : List ℕ) × (o ≡ Some full) × (m < length full)
+had_longer true o n m front e next h = cc
+had_longer false None n m front e next h = cc
+had_longer false (Some full) n m front e next h =
+    let same : take n full ≡ front = cc in
+    let both = longer n m front full same next h in
+    (both.0, full, refl, both.1)
+
+loaded_longer : (a : Told) (name : List ℕ) (n m : ℕ) (front : List ℕ) → loaded (called a) name n ≡ Some front → n ≡ m + 1 → m < length front → (length front ≡ n) × (full : List ℕ) × (get a.files name ≡ Some full) × (m < length full)
+unfolding loaded called
+loaded_longer a name n m front e next h = had_longer (fails (called a)) (get a.files name) n m front e next h
 
 -- what is loaded of a file that is there, where the load isn't to fail
 pub front-of_file : (most : ℕ) (name : List ℕ) (a : Told) (file : List ℕ) → HasFile name a file → front_of most name a ≡ Some (take (most + 1) file)

@@ -1,5 +1,5 @@
 -- Which number of steps a text says.
-use Rattle.std.proofs.Common.{◌≡◌, ℕ, ◌≤◌, ◌<◌, ◌^◌, ◌&&◌, Bool, true, false, cond, leb, List, Option, Some, None, Result, Ok, Err, bytes_eq, decimal, refl, sym, ap, ◌∙◌, subst, arith}
+use Rattle.std.proofs.Common.{◌≡◌, ℕ, ◌≤◌, ◌<◌, ◌^◌, ◌&&◌, Bool, true, false, cond, leb, List, Option, Some, None, Result, Ok, bytes_eq, decimal, refl, sym, ap, ◌∙◌, subst, arith}
 use Rattle.std.proofs.lemmas.Bool.Decides.{nat_tests}
 use Rattle.std.proofs.lemmas.Slice.Eq.{bytes_eq-Decides}
 use Rattle.std.proofs.lemmas.Fmt.{decimal_is_IsNumeral, parse-decimal}
@@ -18,10 +18,10 @@ chosen false v n e = cc
 taken : (b c : Bool) (v : ℕ) → b ≡ true → c ≡ true → cond (b && c) (Some v) None ≡ Some v
 taken b c v p q = rw (p, q) refl
 
-leb_is : (a b : ℕ) → leb a b ≡ true → a ≤ b
+pub leb_is : (a b : ℕ) → leb a b ≡ true → a ≤ b
 leb_is a b e = grind (arith, nat_tests)
 
-is_leb : (a b : ℕ) → a ≤ b → leb a b ≡ true
+pub is_leb : (a b : ℕ) → a ≤ b → leb a b ≡ true
 is_leb a b h = grind (arith, nat_tests)
 
 small : (n : ℕ) → n ≤ most_steps → n < 2 ^ 64
@@ -54,8 +54,8 @@ none_of (Some n) h = absurd (h n refl)
 pub steps_of_none : {E : Type 0} (text : List ℕ) (r : Result ℕ E) → ParsesUnsigned 64 10 text r → ((n : ℕ) → r ≡ Ok n → text ≡ decimal n → n ≤ most_steps → ⊥) → steps_of text ≡ None
 steps_of_none text r parses h =
     none_of (steps_of text) (λ n e.
-      let is = steps_of_is text n e in
-      h n (parse-decimal 64 n text r (small n is.1) (small n is.1) is.0 parses) is.0 is.1)
+    let is = steps_of_is text n e in
+    h n (parse-decimal 64 n text r (small n is.1) (small n is.1) is.0 parses) is.0 is.1)
 
 -- a parse that answers no number read none
 pub not_read : {E : Type 0} (r : Result ℕ E) (o : Option ℕ) → o ≡ result_ok r → o ≡ None → (n : ℕ) → r ≡ Ok n → ⊥

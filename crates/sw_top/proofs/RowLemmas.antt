@@ -3,10 +3,10 @@ use Rattle.std.proofs.Common.{◌≡◌, ◌≢◌, ℕ, List, ◌∷◌, codes,
 use Rattle.std.specs.FinMap.{get, get-empty}
 use Rattle.sw_host.specs.Told.{Told}
 use Rattle.sw_host.specs.Calls.{called, fails, with_file}
-use Rattle.sw_top.specs.Rewriting.{input, IsLoaded, Finishes, Fails, load_fails, out_fails, map_fails}
+use Rattle.sw_top.specs.Rewriting.{greatest_size, input, IsLoaded, Finishes, Fails, load_fails, out_fails, map_fails}
 use Rattle.sw_top.specs.Rows.{row_names, empty_host, row_host, row_host_after, OrderRows}
 use Rattle.sw_top.proofs.StoredFiles.{FileLaws}
-use Rattle.sw_top.proofs.DueAnswers.{front_of}
+use Rattle.sw_top.proofs.LoadLemmas.{front-of_file}
 
 one_head : (m n : ℕ) (xs ys : List ℕ) → m ∷ xs ≡ n ∷ ys → m ≡ n
 one_head m n xs ys e = cc
@@ -30,7 +30,7 @@ first_fails file b (map_fails s e) = cc
 module _ (laws : FileLaws) (file : List ℕ) (b : Told) where
   loads : (n : ℕ) → fails (called (row_host file n)) ≡ false → input row_names (row_host file n) ≡ None → ⊥
   loads n e none =
-      let gave = front_of row_names (row_host file n) file (record { loads = e; whole = laws.stored_file (empty_host n) (codes "in") file }) in
+      let gave = front-of_file greatest_size (codes "in") (row_host file n) file (record { loads = e; whole = laws.stored_file (empty_host n) (codes "in") file }) in
       cc
 
   second_fails : Fails row_names (row_host file 2) b → (b.calls ≡ 2) × (get b.files (codes "map") ≡ None)

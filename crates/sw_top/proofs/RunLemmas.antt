@@ -1,13 +1,12 @@
 -- What a machine that started with a program did, in terms of the program's run.
-use Rattle.std.proofs.Common.{◌≡◌, ℕ, ◌+◌, ◌≤◌, List, [], ◌++◌, Option, Some, None, Result, Ok, Err, refl, sym, ap, ◌∙◌, subst, append-nil, add-zero}
+use Rattle.std.proofs.Common.{◌≡◌, ℕ, List, [], ◌++◌, None, Result, Ok, Err, refl, sym, ap, ◌∙◌, subst, append-nil, add-zero}
 use Rattle.std.specs.declared.alloc.AllocError.{AllocError}
 use Rattle.outside.specs.declared.answer.Answer.{Answer}
-use Rattle.traces.specs.Trace.{Label, IsPrefix, seen, run}
+use Rattle.traces.specs.Trace.{IsPrefix, seen, run}
 use Rattle.traces.specs.RunLaws.{RunLaws}
 use Rattle.image.specs.declared.image.Image.{Image}
 use Rattle.mem_pages.specs.declared.end.RunEnd.{RunEnd}
 use Rattle.mem_pages.specs.declared.end.RunEnd.TheVariants.{Exited, MemoryFault, DivideFault, Outside, OtherCall, Unspecified, Spent}
-use Rattle.mem_pages.specs.Ends.{end_of}
 use Rattle.x86_code.specs.Code.{code_of}
 use Rattle.x86_meaning.specs.Step.{State}
 use Rattle.x86_meaning.specs.Run.{machine, run_from, start_of}

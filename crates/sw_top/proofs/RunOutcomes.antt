@@ -1,5 +1,5 @@
 -- What a run comes to, read off its calls.
-use Rattle.std.proofs.Common.{◌≡◌, ◌<◌, ◌≤◌, ◌⊎◌, ℕ, ◌+◌, min, List, [], ◌++◌, length, Option, Some, None, Result, Ok, Err, inl, inr, refl, sym, ap, ◌∙◌, subst, append-nil}
+use Rattle.std.proofs.Common.{◌≡◌, ℕ, ◌+◌, min, List, [], ◌++◌, length, Option, Some, None, Result, Ok, Err, inl, inr, refl, sym, ap, ◌∙◌, append-nil}
 use Rattle.image.specs.declared.image.Image.{Image}
 use Rattle.image.specs.declared.room.Room.TheVariants.{Any}
 use Rattle.elf_image.specs.declared.refusal.Refusal.{Refusal}
@@ -17,9 +17,9 @@ use Rattle.sw_top.specs.Loading.{front_of, IsWhole, IsLonger, HasFile}
 use Rattle.sw_top.specs.Running.{greatest_program, PerformsRun, RunsProgram, RunsOutOfMemory, before_run, in_run}
 use Rattle.sw_top.specs.Serves.{SaysLine}
 use Rattle.sw_top.specs.RewriteOutcome.{IsOrMemory, KeepsFiles}
-use Rattle.sw_top.specs.RunOutcome.{RanOrMemory, AnswersProgram, AnswersRun, KeepsFilesInRun, lines_said, RunLeaves, HasRun}
+use Rattle.sw_top.specs.RunOutcome.{RanOrMemory, AnswersRun, KeepsFilesInRun, lines_said, RunLeaves, HasRun}
 use Rattle.sw_top.specs.Outcome.{LineAfter}
-use Rattle.sw_top.proofs.FilesAfter.{AddsLine, adds_line, lines_from, loaded_lines, loaded_files, loaded_calls, keeps_files}
+use Rattle.sw_top.proofs.FilesAfter.{adds_line, lines_from, loaded_lines, loaded_files, loaded_calls, keeps_files}
 use Rattle.sw_top.proofs.LoadLemmas.{whole_has, longer_has, has_whole, has_longer, one_whole, not_none, longer_not_none, not_longer}
 
 -- what a run found, by its answer

@@ -1,5 +1,5 @@
 -- What a loop over the words of a call has still to put on the stack.
-use Rattle.std.proofs.Common.{◌≡◌, ℕ, ◌+◌, ◌<◌, ◌≤◌, List, ◌∷◌, ◌++◌, length, drop, get_or, String, refl, sym, ap, ◌∙◌, add-one, drop-cons, length-append, arith}
+use Rattle.std.proofs.Common.{◌≡◌, ℕ, ◌+◌, ◌<◌, ◌≤◌, List, ◌∷◌, ◌++◌, length, drop, get_or, String, refl, ap, ◌∙◌, add-one, drop-cons, length-append, arith}
 use Rattle.std.proofs.lemmas.List.{drop_all}
 use Rattle.std.specs.String.{string_bytes}
 use Rattle.std.specs.declared.alloc.Global.{Global}

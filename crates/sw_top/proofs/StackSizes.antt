@@ -1,10 +1,9 @@
 -- How large the stack of words is, and where it lies.
-use Rattle.std.proofs.Common.{◌≡◌, ℕ, ◌+◌, ◌-◌, ◌*◌, ◌/◌, ◌%◌, ◌<◌, ◌≤◌, max, List, [], ◌∷◌, ◌++◌, length, All, refl, sym, ap, ◌∙◌, arith, length-append}
+use Rattle.std.proofs.Common.{◌≡◌, ℕ, ◌+◌, ◌-◌, ◌*◌, ◌%◌, ◌≤◌, List, [], ◌∷◌, ◌++◌, length, refl, ◌∙◌, arith, length-append}
 use Rattle.std.proofs.lemmas.List.{length-replicate}
 use Rattle.std.specs.List.{flat_map}
 use Rattle.byte_lists.specs.LittleEndian.{word_bytes, zeros}
-use Rattle.x86_meaning.specs.Run.{IsStart}
-use Rattle.sw_top.specs.Stacks.{strings, pointers, vectors, vectors_size, used_size, filled, stack_size, greatest_stack, first_esp, start_stack}
+use Rattle.sw_top.specs.Stacks.{strings, pointers, vectors, vectors_size, used_size, filled, stack_size, first_esp, start_stack}
 use Rattle.sw_top.specs.Laws.{StackIsStart}
 
 -- four bytes a number
@@ -19,9 +18,9 @@ length-pointers at (w ∷ words) = let e : length (pointers (at + length w + 1) 
 length-vectors : (at : ℕ) (words : List (List ℕ)) → length (flat_map word_bytes (vectors at words)) ≡ vectors_size words
 length-vectors at words =
     length-words (vectors at words) ∙ (
-      let e : length (pointers (at + vectors_size words) words) ≡ length words = length-pointers (at + vectors_size words) words in
-      let f : length (pointers (at + vectors_size words) words ++ 0 ∷ 0 ∷ 0 ∷ 0 ∷ []) ≡ length (pointers (at + vectors_size words) words) + 4 = length-append _ _ in
-      omega arith)
+    let e : length (pointers (at + vectors_size words) words) ≡ length words = length-pointers (at + vectors_size words) words in
+    let f : length (pointers (at + vectors_size words) words ++ 0 ∷ 0 ∷ 0 ∷ 0 ∷ []) ≡ length (pointers (at + vectors_size words) words) + 4 = length-append _ _ in
+    omega arith)
 
 -- the fill takes no more than it has to
 filled_bounds : (n : ℕ) → (n ≤ filled n) × (128 ≤ filled n) × (filled n % 16 ≡ 0)

@@ -1,16 +1,15 @@
 -- What the calls of a rewriting tell together.
-use Rattle.std.proofs.Common.{◌≡◌, ◌≤◌, ◌<◌, ◌+◌, ℕ, Bool, true, false, cond, List, take, length, min, Option, option_map, Result, Ok, Err, Some, None, Vec, refl, sym, ap, ◌∙◌, subst, arith, length-take}
-use Rattle.std.proofs.lemmas.List.{take_all}
-use Rattle.std.specs.FinMap.{get}
+use Rattle.std.proofs.Common.{◌≡◌, ◌≤◌, ◌<◌, ℕ, true, false, List, length, Result, Ok, Err, Vec, subst, arith}
 use Rattle.std.specs.declared.alloc.Global.{Global}
 use Rattle.elf_image.specs.declared.refusal.Refusal.{Refusal}
 use Rattle.rewrite_core.specs.Rewrites.{IsRefused, IsWritten}
 use Rattle.sw_host.specs.declared.host.HostFault.{HostFault}
 use Rattle.sw_host.specs.declared.host.HostFault.TheVariants.{Failed, Memory}
 use Rattle.sw_host.specs.Told.{Told, HasCause, Rose}
-use Rattle.sw_host.specs.Calls.{called, fails, loaded, with_file, Spoils, Loads, Stores}
+use Rattle.sw_host.specs.Calls.{called, fails, with_file, Spoils, Loads, Stores}
 use Rattle.sw_top.specs.declared.command.Names.{Names}
-use Rattle.sw_top.specs.Rewriting.{limit, greatest_size, map_text, input, stored_out, IsInput, IsLoaded, PassesLimit, Finishes, Refuses, SpoilsOut, SpoilsMap, Fails, load_fails, out_fails, map_fails, WantsMemory, before_stores, in_out, in_map}
+use Rattle.sw_top.proofs.LoadLemmas.{failed_load, longer_load, whole_load}
+use Rattle.sw_top.specs.Rewriting.{limit, greatest_size, map_text, stored_out, IsInput, IsLoaded, PassesLimit, Finishes, Refuses, SpoilsOut, SpoilsMap, Fails, load_fails, out_fails, map_fails, WantsMemory, before_stores, in_out, in_map}
 
 -- a count of faults never falls
 pub has_cause : {T : Type 0} (before now : ℕ) (r : Result T HostFault) → HasCause before now r → before ≤ now
@@ -25,57 +24,15 @@ rose_before a b c h r = omega arith
 pub rose_after : (a b c : ℕ) → Rose a b → b ≤ c → Rose a c
 rose_after a b c r h = omega arith
 
--- a front that is shorter than it may be is the whole
-whole : (n : ℕ) (file full : List ℕ) → take n full ≡ file → length file < n → full ≡ file
-whole n file full e h =
-    let size : min n (length full) ≡ length file = sym (length-take n full) ∙ ap length e in
-    sym (take_all n full (omega (arith, size, h))) ∙ e
-
-had_file : (b : Bool) (o : Option (List ℕ)) (n : ℕ) (file : List ℕ) → cond b None (option_map (take n) o) ≡ Some file → length file < n → o ≡ Some file
-had_file true o n file e h = cc
-had_file false None n file e h = cc
-had_file false (Some full) n file e h = let same : take n full ≡ file = cc in ap Some (whole n file full same h)
-
--- a load that gave fewer bytes than were asked for gave the file
-pub loaded_whole : (a : Told) (name : List ℕ) (n : ℕ) (file : List ℕ) → loaded (called a) name n ≡ Some file → length file < n → get a.files name ≡ Some file
-unfolding loaded called
-loaded_whole a name n file e h = had_file (fails (called a)) (get a.files name) n file e h
-
--- a front that is longer than m is one of a file that is longer, and has all n bytes where n is the next number
-longer : (n m : ℕ) (front full : List ℕ) → take n full ≡ front → n ≡ m + 1 → m < length front → (length front ≡ n) × (m < length full)
-longer n m front full e next h =
-    let size : min n (length full) ≡ length front = sym (length-take n full) ∙ ap length e in
-    (omega (arith, size, next, h), omega (arith, size, next, h))
-
-had_longer : (b : Bool) (o : Option (List ℕ)) (n m : ℕ) (front : List ℕ) → cond b None (option_map (take n) o) ≡ Some front → n ≡ m + 1 → m < length front → (length front ≡ n) × (full : List ℕ) × (o ≡ Some full) × (m < length full)
-had_longer true o n m front e next h = cc
-had_longer false None n m front e next h = cc
-had_longer false (Some full) n m front e next h =
-    let same : take n full ≡ front = cc in
-    let both = longer n m front full same next h in
-    (both.0, full, refl, both.1)
-
-pub loaded_longer : (a : Told) (name : List ℕ) (n m : ℕ) (front : List ℕ) → loaded (called a) name n ≡ Some front → n ≡ m + 1 → m < length front → (length front ≡ n) × (full : List ℕ) × (get a.files name ≡ Some full) × (m < length full)
-unfolding loaded called
-loaded_longer a name n m front e next h = had_longer (fails (called a)) (get a.files name) n m front e next h
-
 module _ (names : Names) (a : Told) where
   pub load_failed : (b : Told) → Loads names.from limit (Err Failed) a b → Fails names a b
-  load_failed b p = load_fails (subst (λ t. loaded t names.from limit ≡ None) p.0 p.1) p.0
-
-  gave : (v : Vec ℕ Global) (b : Told) → Loads names.from limit (Ok v) a b → input names a ≡ Some v.items
-  gave v b p = subst (λ t. loaded t names.from limit ≡ Some v.items) p.0 p.1
+  load_failed b p = load_fails (failed_load greatest_size names.from a b p) p.0
 
   pub too_long : (v : Vec ℕ Global) (b : Told) → greatest_size < length v.items → Loads names.from limit (Ok v) a b → PassesLimit names a b
-  too_long v b h p =
-      let given = gave v b p in
-      let found = loaded_longer a names.from limit greatest_size v.items given refl h in
-      record { overlong = record { front = v.items; gave = given; full = found.0; file = found.1; whole = found.2; over = found.3 }; after = p.0 }
+  too_long v b h p = record { overlong = longer_load greatest_size names.from a v b h p; after = p.0 }
 
   is_input : (v : Vec ℕ Global) (b : Told) → length v.items ≤ greatest_size → Loads names.from limit (Ok v) a b → IsInput names a v.items
-  is_input v b h p =
-      let given = gave v b p in
-      record { gave = given; fits = h; whole = loaded_whole a names.from limit v.items given (omega (arith, h)) }
+  is_input v b h p = whole_load greatest_size names.from a v b h p
 
   pub refused : (v : Vec ℕ Global) (r : Refusal) (b : Told) → length v.items ≤ greatest_size → IsRefused v.items r → Loads names.from limit (Ok v) a b → Refuses names r a b
   refused v r b fits h p = record { file = v.items; is_input = is_input v b fits p; refused = h; after = p.0 }

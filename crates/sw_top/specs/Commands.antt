@@ -1,5 +1,5 @@
 -- The commands that the words of a call spell. (own)
-use Rattle.std.specs.Prelude.{ℕ, List, [], ◌∷◌, map, codes, bytes_eq, decimal, leb, ◌&&◌, String, Option, Some, None, if◌then◌else◌}
+use Rattle.std.specs.Prelude.{ℕ, List, [], ◌∷◌, map, codes, bytes_eq, decimal, leb, ◌&&◌, Option, Some, None, if◌then◌else◌}
 use Rattle.std.specs.Str.Parse.{digits_value}
 use Rattle.sw_top.specs.declared.command.Command.{Command}
 use Rattle.sw_top.specs.declared.command.Command.TheVariants.{Rewrite, Run}

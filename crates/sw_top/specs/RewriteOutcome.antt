@@ -9,12 +9,12 @@ use Rattle.sw_host.specs.Calls.{called, fails}
 use Rattle.sw_top.specs.declared.command.Names.{Names}
 use Rattle.sw_top.specs.declared.end.End.{End}
 use Rattle.sw_top.specs.declared.end.End.TheVariants.{Done, Ran, Usage, TooLong, Refused, Host, Memory}
+use Rattle.sw_top.specs.Loading.{HasFile}
 use Rattle.sw_top.specs.Rewriting.{greatest_size, map_text}
 
 -- IN is that file, and the next call, its load, isn't to fail.
-pub record IsGiven (names : Names) (a : Told) (file : List ℕ) : Type 0 where
-  pub loads : fails (called a) ≡ false
-  pub whole : get a.files names.from ≡ Some file
+abbrev pub IsGiven : Names → Told → List ℕ → Type 0
+IsGiven names a file = HasFile names.from a file
 
 -- The answer is the one that is due, or memory was wanting.
 abbrev pub IsOrMemory : End → End → Type 0

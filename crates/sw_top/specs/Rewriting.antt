@@ -1,10 +1,10 @@
 -- What a rewriting does to what a host tells: the load of IN, the store of OUT and the store of MAP, in this order.
-use Rattle.std.specs.Prelude.{◌≡◌, ◌≤◌, ◌<◌, ℕ, true, false, List, ◌++◌, [], ◌∷◌, length, Option, Some, None, codes}
-use Rattle.std.specs.FinMap.{get}
+use Rattle.std.specs.Prelude.{◌≡◌, ℕ, true, false, List, ◌++◌, [], ◌∷◌, Option, None, codes}
 use Rattle.elf_image.specs.declared.refusal.Refusal.{Refusal}
 use Rattle.rewrite_core.specs.Rewrites.{IsWritten, IsRefused}
 use Rattle.sw_host.specs.Told.{Told}
-use Rattle.sw_host.specs.Calls.{called, fails, loaded, with_file, Spoils}
+use Rattle.sw_host.specs.Calls.{called, fails, with_file, Spoils}
+use Rattle.sw_top.specs.Loading.{front_of, IsWhole, IsLonger}
 use Rattle.sw_top.specs.declared.command.Names.{Names}
 use Rattle.sw_top.specs.declared.end.End.{End}
 use Rattle.sw_top.specs.declared.end.End.TheVariants.{Done, Ran, Usage, TooLong, Refused, Host, Memory}
@@ -23,7 +23,7 @@ map_text = codes "secondwrite-map 1" ++ 0x0A ∷ []
 
 -- What the load of IN gives.
 abbrev pub input : Names → Told → Option (List ℕ)
-input names a = loaded (called a) names.from limit
+input names a = front_of greatest_size names.from a
 
 -- The host after the load of IN and the store of these bytes as OUT.
 abbrev pub stored_out : Names → List ℕ → Told → Told
@@ -34,19 +34,12 @@ abbrev pub stored_both : Names → List ℕ → Told → Told
 stored_both names out a = with_file (called (stored_out names out a)) names.map map_text
 
 -- The load of IN gave at most 16 MiB, which is the whole file.
-pub record IsInput (names : Names) (a : Told) (file : List ℕ) : Type 0 where
-  pub gave : input names a ≡ Some file
-  pub fits : length file ≤ greatest_size
-  pub whole : get a.files names.from ≡ Some file
+abbrev pub IsInput : Names → Told → List ℕ → Type 0
+IsInput names a file = IsWhole greatest_size names.from a file
 
 -- The load of IN gave all bytes that it asked for, since the file has more than 16 MiB.
-pub record IsOverlong (names : Names) (a : Told) : Type 0 where
-  pub front : List ℕ
-  pub gave : input names a ≡ Some front
-  pub full : length front ≡ limit
-  pub file : List ℕ
-  pub whole : get a.files names.from ≡ Some file
-  pub over : greatest_size < length file
+abbrev pub IsOverlong : Names → Told → Type 0
+IsOverlong names a = IsLonger greatest_size names.from a
 
 -- IN was loaded, and `out` is a file that is written for it.
 pub record IsLoaded (names : Names) (a : Told) (out : List ℕ) : Type 0 where

@@ -1,5 +1,5 @@
 -- Rows of the definitions of runs, worked by hand: words, a stack, statuses and lines.
-use Rattle.std.specs.Prelude.{◌≡◌, ◌++◌, ℕ, List, [], ◌∷◌, codes, replicate, Some, None}
+use Rattle.std.specs.Prelude.{◌≡◌, ℕ, [], ◌∷◌, codes, replicate, Some, None}
 use Rattle.byte_lists.specs.LittleEndian.{zeros}
 use Rattle.mem_pages.specs.declared.end.RunEnd.TheVariants.{Exited, MemoryFault, DivideFault, Outside, OtherCall, Unspecified, Spent}
 use Rattle.sw_top.specs.declared.command.Running.{Running}

@@ -1,5 +1,5 @@
 -- What a run does to what a host tells: the load of IN, and then the takes and puts of the run of its image.
-use Rattle.std.specs.Prelude.{◌≡◌, ◌≤◌, ℕ, List, ◌++◌, Option, Some, None, Result, Ok, Err}
+use Rattle.std.specs.Prelude.{◌≡◌, ◌≤◌, ℕ, List, ◌++◌, None, Result, Ok, Err}
 use Rattle.outside.specs.declared.answer.Answer.{Answer}
 use Rattle.traces.specs.Trace.{Label, Behaviour, IsPrefix, seen}
 use Rattle.image.specs.declared.image.Image.{Image}

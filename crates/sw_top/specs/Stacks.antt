@@ -1,6 +1,6 @@
 -- The stack that a run begins with (System V ABI, Intel386 supplement, "Process Initialization"). That the environment and the
 -- auxiliary vector are empty, the order of the strings, the fill behind them and the place are own.
-use Rattle.std.specs.Prelude.{◌≤◌, ℕ, ◌+◌, ◌-◌, ◌*◌, ◌/◌, max, List, [], ◌∷◌, ◌++◌, length}
+use Rattle.std.specs.Prelude.{ℕ, ◌+◌, ◌-◌, ◌*◌, ◌/◌, max, List, [], ◌∷◌, ◌++◌, length}
 use Rattle.std.specs.List.{flat_map}
 use Rattle.byte_lists.specs.LittleEndian.{word_bytes, zeros}
 

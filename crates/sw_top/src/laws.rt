@@ -1,13 +1,14 @@
 // What the definitions of the top call come to.
-ghost use Rattle.sw_top.specs.Laws.{RewriteIsSpelled, StackIsStart};
+ghost use Rattle.sw_top.specs.Laws.{RewriteIsSpelled, RunIsSpelled, StackIsStart};
 ghost use Rattle.sw_top.specs.Rows.{CommandRows, SizeRows, StatusRows, LineRows, MapRow, OrderRows};
 ghost use Rattle.sw_top.specs.RunRows.{RunCommandRows, StackRows, RunEndRows};
 
 use sw_host::host_laws;
 
-/// Does nothing: its clause says which words spell a rewriting.
+/// Does nothing: its clauses say which words spell a rewriting, and which a run.
 pub fn command_laws()
-    ensures { RewriteIsSpelled }
+    ensures rewrite { RewriteIsSpelled }
+    ensures run { RunIsSpelled }
 {}
 
 /// Does nothing: its clause says that a run can begin with the stacks of words.

@@ -1,7 +1,6 @@
 use Rattle.std.proofs.Common.{◌<◌, arith}
 use Rattle.std.proofs.lemmas.List.Elements.{All-from_get_or}
 use Rattle.sw_top.specs.Texts.{texts}
-use Rattle.sw_top.specs.Stacks.{start_stack}
 use Rattle.sw_top.proofs.running.start_over.Goals as goal
 
 pub start-requires : goal.start-requires

@@ -30,7 +30,7 @@ returns-clause-serves g c =
 pub returns-clause-outcome : goal.returns-clause-outcome
 returns-clause-outcome g c =
     let laws : LawsBelow = record { plain = c.image_laws.ensures.plain_is_accepted; stored_file = c.host_laws.ensures.stored_file; other_files = c.host_laws.ensures.other_files; alike = c.host_laws.ensures.fails_alike } in
-    let fit = is_fit c.command_laws.ensures (texts c.args.words.now) c.in-Some.command c.in-Some.ensures in
+    let fit = is_fit c.command_laws.ensures.rewrite (texts c.args.words.now) c.in-Some.command c.in-Some.ensures in
     let rose = Rose (g.H.Host.faults c.args.host.now) (g.H.Host.faults c.report-2.new.host) in
     let cause : c.perform-end.result ≡ Host → rose = λ e. rose_after _ _ _ (c.perform-end.ensures.cause e) c.report-2.ensures.faults in
     let P = λ (o : Option Command). Tells (g.H.Host.told c.args.host.now) (g.H.Host.told c.report-2.new.host) (Outcome o c.perform-end.result rose) in
@@ -39,7 +39,7 @@ returns-clause-outcome g c =
 pub returns-clause-headline : goal.returns-clause-headline
 returns-clause-headline g c e =
     let laws : LawsBelow = record { plain = c.image_laws.ensures.plain_is_accepted; stored_file = c.host_laws.ensures.stored_file; other_files = c.host_laws.ensures.other_files; alike = c.host_laws.ensures.fails_alike } in
-    let fit = is_fit c.command_laws.ensures (texts c.args.words.now) c.in-Some.command c.in-Some.ensures in
+    let fit = is_fit c.command_laws.ensures.rewrite (texts c.args.words.now) c.in-Some.command c.in-Some.ensures in
     let P = λ (o : Option Command). Tells (g.H.Host.told c.args.host.now) (g.H.Host.told c.report-2.new.host) (AfterDone o) in
     subst P c.in-Some.ensures (tells_then _ _ _ _ _ _ c.perform-end.ensures.performs c.report-2.ensures.says (λ a m b p q. after_done laws c.in-Some.command fit a b (subst (λ end. PerformsThenSays c.in-Some.command end a b) e (record { before_line = m; performs = p; says = q }))))
 
