@@ -1,5 +1,5 @@
 -- INT 80h alone makes a system call.
-use Rattle.std.proofs.Common.{◌≡◌, ℕ, ◌+◌, ◌/◌, Bool, true, false, List, [], ◌∷◌, Option, Some, None, Result, Ok, Err, refl, sym, ◌∙◌}
+use Rattle.std.proofs.Common.{◌≡◌, ℕ, ◌+◌, Bool, true, false, List, [], ◌∷◌, Option, Some, None, Result, Ok, Err, refl, ◌∙◌}
 use Rattle.x86_values.specs.declared.word.Word.{Word}
 use Rattle.x86_values.specs.declared.word.Flags.{Flags}
 use Rattle.x86_values.specs.declared.divided.Divided.{Divided}
@@ -18,7 +18,7 @@ use Rattle.x86_meaning.specs.Registers.{Processor}
 use Rattle.x86_meaning.specs.Operands as operands
 use Rattle.x86_meaning.specs.Operands.{SizedOperand, InRegister, InMemory, Constant}
 use Rattle.x86_meaning.specs.TransferShapes.{Transfer}
-use Rattle.x86_meaning.specs.Outcomes.{Computation, alu_computed, div_computed, goes_to, jump_computed, lowered_by, movs_computed, on_one, on_three, on_two, quotient_and_remainder, raised_by, stos_computed}
+use Rattle.x86_meaning.specs.Outcomes.{Computation, alu_computed, goes_to, jump_computed, lowered_by, movs_computed, on_one, on_three, on_two, quotient_and_remainder, raised_by, stos_computed}
 use Rattle.x86_meaning.specs.Computing.{compute}
 use Rattle.x86_meaning.specs.Effect.{Effect, all_written, effect_of, written_to}
 use Rattle.x86_step.specs.Finishing.{is_call}

@@ -1,9 +1,8 @@
 -- The effects of instructions whose operands, values and outcomes are known.
-use Rattle.std.proofs.Common.{◌≡◌, ℕ, ◌+◌, Bool, List, [], ◌∷◌, Option, Some, None, Result, Ok, Err, refl, sym, ap, ◌∙◌}
+use Rattle.std.proofs.Common.{◌≡◌, ℕ, List, [], ◌∷◌, Option, Some, refl, ap, ◌∙◌}
 use Rattle.x86_values.specs.declared.word.Word.{Word}
 use Rattle.x86_values.specs.declared.word.Flags.{Flags}
 use Rattle.memory.specs.Memory.{Memory}
-use Rattle.x86_types.specs.declared.instr.Instr.{Instr}
 use Rattle.x86_types.specs.declared.instr.Instr.TheVariants as instr
 use Rattle.x86_types.specs.declared.operand.Rm.{Rm}
 use Rattle.x86_types.specs.declared.operand.Src.{Src}
@@ -14,11 +13,10 @@ use Rattle.x86_types.specs.Numbers.{size_of}
 use Rattle.x86_meaning.specs.declared.state.Cpu.{Cpu}
 use Rattle.x86_meaning.specs.Registers.{Registers, machine_naming}
 use Rattle.x86_meaning.specs.Operands.{Location, operand, location_of, source_of}
-use Rattle.x86_meaning.specs.TransferShapes.{Transfer, alu_reads, alu_transfer, alu_writes, by_one, by_two, compare_transfer, move_transfer}
+use Rattle.x86_meaning.specs.TransferShapes.{Transfer, alu_reads, alu_transfer, alu_writes, by_two, compare_transfer, move_transfer}
 use Rattle.x86_meaning.specs.Transfers.{transfer}
 use Rattle.x86_meaning.specs.Outcomes.{Computation, alu_computed, move_computed, on_one, on_two, test_computed}
 use Rattle.x86_meaning.specs.Computing.{compute}
-use Rattle.x86_meaning.specs.Effect as spec
 use Rattle.x86_meaning.specs.Effect.{effect_of}
 use Rattle.x86_step.specs.Judged.{effect_read, processor_of, values_read}
 use Rattle.x86_step.specs.Steps.{registers_of}

@@ -1,11 +1,9 @@
 -- The effects of jumps, calls, the stack and LEA, whose values and outcome are known.
-use Rattle.std.proofs.Common.{◌≡◌, ℕ, ◌+◌, Bool, true, false, List, [], ◌∷◌, Option, Some, None, Result, Ok, Err, refl, sym, ap, ◌∙◌}
+use Rattle.std.proofs.Common.{◌≡◌, ℕ, true, false, List, [], ◌∷◌, Some, refl, ap, ◌∙◌}
 use Rattle.x86_values.specs.declared.word.Word.{Word}
-use Rattle.x86_values.specs.declared.word.Flags.{Flags}
 use Rattle.x86_values.specs.Words.{known}
 use Rattle.x86_values.specs.Conditions.{condition}
 use Rattle.memory.specs.Memory.{Memory}
-use Rattle.x86_types.specs.declared.instr.Instr.{Instr}
 use Rattle.x86_types.specs.declared.instr.Instr.TheVariants as instr
 use Rattle.x86_types.specs.declared.operand.Rm.TheVariants as rm
 use Rattle.x86_types.specs.declared.operand.Reg.{Reg}
@@ -16,13 +14,12 @@ use Rattle.x86_types.specs.declared.width.Width.{Width}
 use Rattle.x86_types.specs.declared.width.Width.TheVariants.{Four}
 use Rattle.x86_types.specs.Numbers.{number_of_reg, size_of}
 use Rattle.x86_meaning.specs.declared.state.Cpu.{Cpu}
-use Rattle.x86_meaning.specs.Registers.{Registers, machine_naming}
+use Rattle.x86_meaning.specs.Registers.{machine_naming}
 use Rattle.x86_meaning.specs.Operands.{Location, Constant, InRegister, effective_address, field, operand, source_of}
-use Rattle.x86_meaning.specs.TransferShapes.{down, esp, esp_raised, leave_transfer, move_transfer, pop_to, pop_transfer, push_of, push_transfer, register, stack_word, transfer_of}
+use Rattle.x86_meaning.specs.TransferShapes.{down, esp, leave_transfer, move_transfer, pop_to, pop_transfer, push_of, push_transfer, register, stack_word, transfer_of}
 use Rattle.x86_meaning.specs.Transfers.{transfer}
 use Rattle.x86_meaning.specs.Outcomes.{Computation, Falls, JumpsBy, call_computed, computed, jump_computed, move_computed, on_one, on_two, pop_computed, push_computed, ret_computed}
 use Rattle.x86_meaning.specs.Computing.{compute}
-use Rattle.x86_meaning.specs.Effect as spec
 use Rattle.x86_meaning.specs.Effect.{effect_of}
 use Rattle.x86_step.specs.Judged.{effect_read, processor_of, values_read}
 use Rattle.x86_step.specs.Steps.{registers_of}

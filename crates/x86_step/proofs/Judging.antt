@@ -1,7 +1,7 @@
 -- A step in the order of the code is the step.
-use Rattle.std.proofs.Common.{◌≡◌, ℕ, ◌+◌, ◌&&◌, Bool, true, false, cond, List, [], ◌∷◌, ◌++◌, map, length, take, Option, Some, None, Result, Ok, Err, refl, sym, ap, ◌∙◌, subst}
+use Rattle.std.proofs.Common.{◌≡◌, ℕ, ◌+◌, ◌&&◌, Bool, true, false, cond, List, [], ◌∷◌, ◌++◌, map, length, take, Option, Some, None, Ok, Err, refl, sym, ap, ◌∙◌}
 use Rattle.outside.specs.Environment.{Environment}
-use Rattle.traces.specs.Trace.{Move, Go, Halt}
+use Rattle.traces.specs.Trace.{Halt}
 use Rattle.x86_values.specs.declared.word.Word.{Word}
 use Rattle.x86_values.specs.Words.{word_list, padded}
 use Rattle.memory.specs.Memory.{Memory, AccessKind, Load, Store, allows_all, bytes_at, wrapped}
@@ -23,8 +23,8 @@ use Rattle.x86_step.specs.declared.operand.Size.TheVariants as size
 use Rattle.x86_step.specs.declared.effect.Stored.{Stored}
 use Rattle.x86_step.specs.declared.effect.Effect.{Effect}
 use Rattle.x86_step.specs.Transferred.{bytes_of}
-use Rattle.x86_step.specs.Judged.{effect_from, effect_read, effect_seen, effect_seen_if, processor_of, store_allowed, stores_of, value_read, values_read, with_value}
-use Rattle.x86_step.specs.Steps.{registers_of, state_of, HaltsWith}
+use Rattle.x86_step.specs.Judged.{effect_from, effect_read, effect_seen, processor_of, store_allowed, stores_of, value_read, values_read, with_value}
+use Rattle.x86_step.specs.Steps.{registers_of, state_of}
 use Rattle.x86_step.specs.Finishing.{rest_of_step}
 
 -- ---- the loads

@@ -1,15 +1,13 @@
 -- What is made in place is what the step does.
-use Rattle.std.proofs.Common.{◌≡◌, ℕ, ◌+◌, Bool, true, false, List, [], ◌∷◌, Option, Some, None, Result, Ok, Err, refl, sym, ap, ◌∙◌}
-use Rattle.outside.specs.Environment.{Environment}
+use Rattle.std.proofs.Common.{◌≡◌, ℕ, ◌+◌, Bool, true, false, List, Option, Some, Result, Ok, ap, ◌∙◌}
 use Rattle.x86_values.specs.declared.word.Word.{Word}
 use Rattle.x86_values.specs.declared.word.Flags.{Flags}
 use Rattle.x86_values.specs.Words.{known}
 use Rattle.memory.specs.Memory.{Memory, wrapped}
 use Rattle.x86_types.specs.declared.instr.Instr.{Instr}
-use Rattle.x86_types.specs.Numbers.{number_of_reg}
 use Rattle.x86_meaning.specs.declared.state.Cpu.{Cpu}
 use Rattle.x86_meaning.specs.declared.stop.Stop.{Stop}
-use Rattle.x86_meaning.specs.Registers.{Registers, Processor, machine_naming, with_register}
+use Rattle.x86_meaning.specs.Registers.{Registers, machine_naming}
 use Rattle.x86_meaning.specs.Operands.{SizedOperand}
 use Rattle.x86_meaning.specs.TransferShapes.{Transfer}
 use Rattle.x86_meaning.specs.Transfers.{transfer}

@@ -1,9 +1,7 @@
 -- The effects of instructions of one operand with a field, whose values and outcome are known.
-use Rattle.std.proofs.Common.{◌≡◌, ℕ, ◌+◌, Bool, List, [], ◌∷◌, Option, Some, None, Result, Ok, Err, refl, sym, ap, ◌∙◌}
+use Rattle.std.proofs.Common.{◌≡◌, ℕ, List, [], ◌∷◌, Some, ap}
 use Rattle.x86_values.specs.declared.word.Word.{Word}
-use Rattle.x86_values.specs.declared.word.Flags.{Flags}
 use Rattle.memory.specs.Memory.{Memory}
-use Rattle.x86_types.specs.declared.instr.Instr.{Instr}
 use Rattle.x86_types.specs.declared.instr.Instr.TheVariants as instr
 use Rattle.x86_types.specs.declared.operand.Rm.{Rm}
 use Rattle.x86_types.specs.declared.operand.Reg.{Reg}
@@ -12,13 +10,12 @@ use Rattle.x86_types.specs.declared.operation.Count.{Count}
 use Rattle.x86_types.specs.declared.width.Width.{Width}
 use Rattle.x86_types.specs.Numbers.{size_of}
 use Rattle.x86_meaning.specs.declared.state.Cpu.{Cpu}
-use Rattle.x86_meaning.specs.Registers.{Registers, machine_naming}
-use Rattle.x86_meaning.specs.Operands.{Location, SizedOperand, field, operand, location_of}
-use Rattle.x86_meaning.specs.TransferShapes.{Transfer, by_one, combine_transfer, count_operand, move_transfer, shift_transfer, update_transfer}
+use Rattle.x86_meaning.specs.Registers.{machine_naming}
+use Rattle.x86_meaning.specs.Operands.{Location, field, operand, location_of}
+use Rattle.x86_meaning.specs.TransferShapes.{by_one, combine_transfer, count_operand, move_transfer, shift_transfer, update_transfer}
 use Rattle.x86_meaning.specs.Transfers.{transfer}
 use Rattle.x86_meaning.specs.Outcomes.{Computation, dec_computed, extend_computed, imul_computed, inc_computed, move_computed, on_one, on_two, shift_computed}
 use Rattle.x86_meaning.specs.Computing.{compute}
-use Rattle.x86_meaning.specs.Effect as spec
 use Rattle.x86_meaning.specs.Effect.{effect_of}
 use Rattle.x86_step.specs.Judged.{effect_read, processor_of, values_read}
 use Rattle.x86_step.specs.Steps.{registers_of}

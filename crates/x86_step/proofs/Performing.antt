@@ -1,5 +1,5 @@
 -- The effect of one value that is written to one operand.
-use Rattle.std.proofs.Common.{◌≡◌, ℕ, [], ◌∷◌, Option, Some, None, Result, Ok, Err, List, false, take, refl, sym, ap, ◌∙◌}
+use Rattle.std.proofs.Common.{◌≡◌, ℕ, [], ◌∷◌, Option, Some, None, Result, Ok, false, take, refl, ap, ◌∙◌}
 use Rattle.x86_values.specs.declared.word.Word.{Word}
 use Rattle.x86_values.specs.declared.word.Flags.{Flags}
 use Rattle.x86_values.specs.Words.{word_list}
@@ -7,7 +7,7 @@ use Rattle.x86_types.specs.declared.operand.Reg.{Reg}
 use Rattle.x86_types.specs.Numbers.{number_of_reg}
 use Rattle.x86_meaning.specs.declared.stop.Stop.{Stop}
 use Rattle.x86_meaning.specs.Registers.{Registers, with_bytes, with_register}
-use Rattle.x86_meaning.specs.Operands.{operand, SizedOperand}
+use Rattle.x86_meaning.specs.Operands.{operand}
 use Rattle.x86_meaning.specs.Outcomes.{computed}
 use Rattle.x86_meaning.specs.Effect as spec
 use Rattle.x86_meaning.specs.Effect.{effect_of}

@@ -22,7 +22,7 @@ use Rattle.x86_step.specs.Judged.{effect_read, effect_seen}
 use Rattle.x86_step.specs.Steps.{state_of, Stays, Steps, StepsOrStays}
 use Rattle.x86_step.specs.Making.{FastOrStays}
 use Rattle.x86_step.specs.Finishing.{MovesOrStays, Moves, is_call, rest_of_step, stepped_by}
-use Rattle.x86_step.proofs.Calling.{EffectCallsNone, effect_calls_none}
+use Rattle.x86_step.proofs.Calling.{effect_calls_none}
 
 answers : (i : Instr) (len : ℕ) (e : Effect) (answer : Stepped) (c d : Cpu) (m n : Memory) → ((left : Environment) → step i len (state_of c m left) ≡ rest_of_step e len c m left)
     → Moves (rest_of_step e len c m) answer c m d n → Steps i len answer c m d n

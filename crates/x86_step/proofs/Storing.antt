@@ -1,16 +1,16 @@
 -- The store of an effect, and how a step is finished.
-use Rattle.std.proofs.Common.{◌≡◌, ℕ, zero, suc, ◌+◌, ◌&&◌, Bool, true, false, cond, List, [], ◌∷◌, Option, Some, None, Result, Ok, Err, take, length, refl, sym, ap, ◌∙◌, subst}
+use Rattle.std.proofs.Common.{◌≡◌, ℕ, zero, suc, ◌+◌, ◌&&◌, Bool, true, false, [], Option, Some, None, Result, Ok, Err, take, length, refl, sym, ap, ◌∙◌}
 use Rattle.outside.specs.Environment.{Environment}
 use Rattle.traces.specs.Trace.{Move, Go, Halt}
 use Rattle.traces.specs.Trace as trace
 use Rattle.x86_values.specs.declared.word.Word.{Word}
 use Rattle.x86_values.specs.Words.{known, word_list}
-use Rattle.memory.specs.Memory.{Memory, Place, AccessKind, Load, Store, allows, allows_all, put_all, store_all, wrapped, forget_below}
+use Rattle.memory.specs.Memory.{Memory, Place, Load, Store, allows, allows_all, put_all, store_all, wrapped, forget_below}
 use Rattle.mem_pages.specs.declared.pages.Pages.{Pages}
 use Rattle.mem_pages.specs.declared.fault.PageFault.{PageFault}
 use Rattle.mem_pages.specs.declared.fault.PageFault.TheVariants as fault
 use Rattle.mem_pages.specs.Contents.{memory_in}
-use Rattle.mem_pages.specs.Accesses.{KeepsPages, SameMemory, IsStored, Stores}
+use Rattle.mem_pages.specs.Accesses.{KeepsPages, IsStored, Stores}
 use Rattle.x86_meaning.specs.declared.state.Cpu.{Cpu}
 use Rattle.x86_meaning.specs.Outcomes as outcomes
 use Rattle.x86_meaning.specs.Outcomes.{Falls, JumpsBy, JumpsTo, Repeats, Calls}

@@ -1,6 +1,5 @@
 -- What is written where no value is left.
 use Rattle.std.proofs.Common.{◌≡◌, List, [], ◌∷◌, refl, sym}
-use Rattle.x86_values.specs.declared.word.Word.{Word}
 use Rattle.x86_meaning.specs.Operands.{SizedOperand}
 use Rattle.x86_meaning.specs.Effect.{Effect, all_written}
 

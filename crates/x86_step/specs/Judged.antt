@@ -10,7 +10,7 @@ use Rattle.x86_types.specs.Numbers.{number_of_reg}
 use Rattle.x86_meaning.specs.declared.state.Cpu.{Cpu}
 use Rattle.x86_meaning.specs.declared.stop.Stop.{Stop}
 use Rattle.x86_meaning.specs.declared.stop.Stop.TheVariants as stop
-use Rattle.x86_meaning.specs.Registers.{Registers, Processor, with_bytes}
+use Rattle.x86_meaning.specs.Registers.{Registers, Processor}
 use Rattle.x86_meaning.specs.Operands as operands
 use Rattle.x86_meaning.specs.Operands.{InRegister, InMemory, Constant, SizedOperand, bytes_in, word_if}
 use Rattle.x86_meaning.specs.TransferShapes.{Transfer}
@@ -19,7 +19,6 @@ use Rattle.x86_meaning.specs.Outcomes.{Falls, JumpsBy, JumpsTo, Repeats, Calls}
 use Rattle.x86_meaning.specs.Computing.{compute}
 use Rattle.x86_meaning.specs.Effect as spec
 use Rattle.x86_meaning.specs.Effect.{effect_of}
-use Rattle.x86_step.specs.declared.operand.Size.{Size}
 use Rattle.x86_step.specs.declared.operand.Place.{Place}
 use Rattle.x86_step.specs.declared.operand.Place.TheVariants.{Lowest, Second}
 use Rattle.x86_step.specs.declared.effect.Stored.{Stored}

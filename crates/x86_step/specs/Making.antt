@@ -1,5 +1,5 @@
 -- A step whose effect is made in place: what it leaves where it is made, and where it isn't.
-use Rattle.std.specs.Prelude.{◌≡◌, ℕ, ◌+◌, Bool, true, false, List, [], Option, Some, None, Ok}
+use Rattle.std.specs.Prelude.{◌≡◌, ℕ, ◌+◌, Bool, true, false, List, [], Option, Some, Ok}
 use Rattle.outside.specs.Environment.{Environment}
 use Rattle.traces.specs.Trace.{Go}
 use Rattle.x86_values.specs.declared.word.Flags.{Flags}

@@ -164,7 +164,10 @@ pub(crate) fn fast_push(from: Src, len: u8, cpu: &mut Cpu, mem: &mut Pages) -> b
     ensures fast { FastOrStays (instr.Push from) len result cpu.old (memory_in mem.old) cpu.new (memory_in mem.new) }
     ensures keeps { KeepsPages mem.old mem.new }
 {
-    match (source_location(cpu, Width::Four, from), known(word_in(cpu, Reg::Esp))) {
+    match (
+        source_location(cpu, Width::Four, from),
+        known(word_in(cpu, Reg::Esp)),
+    ) {
         (Some(from_at), Some(at)) => push_at(from, from_at, at, len, cpu, mem),
         _ => false,
     }
@@ -232,7 +235,15 @@ pub(crate) fn fast_leave(len: u8, cpu: &mut Cpu, mem: &mut Pages) -> bool
 
 // LEA of an address that is known.
 #[inline]
-fn lea_at(width: Width, to: Reg, from: Address, at: u32, len: u8, cpu: &mut Cpu, mem: &mut Pages) -> bool
+fn lea_at(
+    width: Width,
+    to: Reg,
+    from: Address,
+    at: u32,
+    len: u8,
+    cpu: &mut Cpu,
+    mem: &mut Pages,
+) -> bool
     requires { Some at ≡ spec.effective_address machine_naming (registers_of cpu.old.regs) from }
     ensures fast { FastOrStays (instr.Lea width to from) len result cpu.old (memory_in mem.old) cpu.new (memory_in mem.new) }
     ensures keeps { KeepsPages mem.old mem.new }
@@ -249,7 +260,14 @@ fn lea_at(width: Width, to: Reg, from: Address, at: u32, len: u8, cpu: &mut Cpu,
 
 /// LEA; false where it isn't made here, and nothing has changed.
 #[inline]
-pub(crate) fn fast_lea(width: Width, to: Reg, from: Address, len: u8, cpu: &mut Cpu, mem: &mut Pages) -> bool
+pub(crate) fn fast_lea(
+    width: Width,
+    to: Reg,
+    from: Address,
+    len: u8,
+    cpu: &mut Cpu,
+    mem: &mut Pages,
+) -> bool
     ensures fast { FastOrStays (instr.Lea width to from) len result cpu.old (memory_in mem.old) cpu.new (memory_in mem.new) }
     ensures keeps { KeepsPages mem.old mem.new }
 {

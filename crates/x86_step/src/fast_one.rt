@@ -24,13 +24,7 @@ use x86_types::{Count, Reg, Rm, ShiftOp, Width};
 // INC, where its operand stands there.
 #[inline]
 #[tactic(auto, using(crate::proofs::SizeOfWidth::size_of_width))]
-fn inc_at(
-    width: Width, to: Rm,
-    to_at: Location,
-    len: u8,
-    cpu: &mut Cpu,
-    mem: &mut Pages,
-) -> bool
+fn inc_at(width: Width, to: Rm, to_at: Location, len: u8, cpu: &mut Cpu, mem: &mut Pages) -> bool
     requires { Some (location_of to_at) ≡ spec.location_of machine_naming (registers_of cpu.old.regs) width to }
     ensures fast { FastOrStays (instr.Inc width to) len result cpu.old (memory_in mem.old) cpu.new (memory_in mem.new) }
     ensures keeps { KeepsPages mem.old mem.new }
@@ -60,13 +54,7 @@ pub(crate) fn fast_inc(width: Width, to: Rm, len: u8, cpu: &mut Cpu, mem: &mut P
 // DEC, where its operand stands there.
 #[inline]
 #[tactic(auto, using(crate::proofs::SizeOfWidth::size_of_width))]
-fn dec_at(
-    width: Width, to: Rm,
-    to_at: Location,
-    len: u8,
-    cpu: &mut Cpu,
-    mem: &mut Pages,
-) -> bool
+fn dec_at(width: Width, to: Rm, to_at: Location, len: u8, cpu: &mut Cpu, mem: &mut Pages) -> bool
     requires { Some (location_of to_at) ≡ spec.location_of machine_naming (registers_of cpu.old.regs) width to }
     ensures fast { FastOrStays (instr.Dec width to) len result cpu.old (memory_in mem.old) cpu.new (memory_in mem.new) }
     ensures keeps { KeepsPages mem.old mem.new }
@@ -97,7 +85,10 @@ pub(crate) fn fast_dec(width: Width, to: Rm, len: u8, cpu: &mut Cpu, mem: &mut P
 #[inline]
 #[tactic(auto, using(crate::proofs::SizeOfWidth::size_of_width))]
 fn shift_at(
-    op: ShiftOp, width: Width, count: Count, to: Rm,
+    op: ShiftOp,
+    width: Width,
+    count: Count,
+    to: Rm,
     to_at: Location,
     len: u8,
     cpu: &mut Cpu,
@@ -119,7 +110,15 @@ fn shift_at(
 
 /// SHL, SHR, SAR, ROL and ROR; false where it isn't made here, and nothing has changed.
 #[inline]
-pub(crate) fn fast_shift(op: ShiftOp, width: Width, count: Count, to: Rm, len: u8, cpu: &mut Cpu, mem: &mut Pages) -> bool
+pub(crate) fn fast_shift(
+    op: ShiftOp,
+    width: Width,
+    count: Count,
+    to: Rm,
+    len: u8,
+    cpu: &mut Cpu,
+    mem: &mut Pages,
+) -> bool
     ensures fast { FastOrStays (instr.Shift op width to count) len result cpu.old (memory_in mem.old) cpu.new (memory_in mem.new) }
     ensures keeps { KeepsPages mem.old mem.new }
 {
@@ -133,7 +132,10 @@ pub(crate) fn fast_shift(op: ShiftOp, width: Width, count: Count, to: Rm, len: u
 #[inline]
 #[tactic(auto, using(crate::proofs::SizeOfWidth::size_of_width))]
 fn movzx_at(
-    wide: Width, width: Width, reg: Reg, to: Rm,
+    wide: Width,
+    width: Width,
+    reg: Reg,
+    to: Rm,
     to_at: Location,
     len: u8,
     cpu: &mut Cpu,
@@ -155,7 +157,15 @@ fn movzx_at(
 
 /// MOVZX; false where it isn't made here, and nothing has changed.
 #[inline]
-pub(crate) fn fast_movzx(wide: Width, width: Width, reg: Reg, to: Rm, len: u8, cpu: &mut Cpu, mem: &mut Pages) -> bool
+pub(crate) fn fast_movzx(
+    wide: Width,
+    width: Width,
+    reg: Reg,
+    to: Rm,
+    len: u8,
+    cpu: &mut Cpu,
+    mem: &mut Pages,
+) -> bool
     ensures fast { FastOrStays (instr.Movzx wide width reg to) len result cpu.old (memory_in mem.old) cpu.new (memory_in mem.new) }
     ensures keeps { KeepsPages mem.old mem.new }
 {
@@ -169,7 +179,10 @@ pub(crate) fn fast_movzx(wide: Width, width: Width, reg: Reg, to: Rm, len: u8, c
 #[inline]
 #[tactic(auto, using(crate::proofs::SizeOfWidth::size_of_width))]
 fn movsx_at(
-    wide: Width, width: Width, reg: Reg, to: Rm,
+    wide: Width,
+    width: Width,
+    reg: Reg,
+    to: Rm,
     to_at: Location,
     len: u8,
     cpu: &mut Cpu,
@@ -191,7 +204,15 @@ fn movsx_at(
 
 /// MOVSX; false where it isn't made here, and nothing has changed.
 #[inline]
-pub(crate) fn fast_movsx(wide: Width, width: Width, reg: Reg, to: Rm, len: u8, cpu: &mut Cpu, mem: &mut Pages) -> bool
+pub(crate) fn fast_movsx(
+    wide: Width,
+    width: Width,
+    reg: Reg,
+    to: Rm,
+    len: u8,
+    cpu: &mut Cpu,
+    mem: &mut Pages,
+) -> bool
     ensures fast { FastOrStays (instr.Movsx wide width reg to) len result cpu.old (memory_in mem.old) cpu.new (memory_in mem.new) }
     ensures keeps { KeepsPages mem.old mem.new }
 {
@@ -205,7 +226,9 @@ pub(crate) fn fast_movsx(wide: Width, width: Width, reg: Reg, to: Rm, len: u8, c
 #[inline]
 #[tactic(auto, using(crate::proofs::SizeOfWidth::size_of_width))]
 fn imul_at(
-    width: Width, reg: Reg, to: Rm,
+    width: Width,
+    reg: Reg,
+    to: Rm,
     to_at: Location,
     len: u8,
     cpu: &mut Cpu,
@@ -227,7 +250,14 @@ fn imul_at(
 
 /// IMUL of two operands; false where it isn't made here, and nothing has changed.
 #[inline]
-pub(crate) fn fast_imul(width: Width, reg: Reg, to: Rm, len: u8, cpu: &mut Cpu, mem: &mut Pages) -> bool
+pub(crate) fn fast_imul(
+    width: Width,
+    reg: Reg,
+    to: Rm,
+    len: u8,
+    cpu: &mut Cpu,
+    mem: &mut Pages,
+) -> bool
     ensures fast { FastOrStays (instr.Imul width reg to) len result cpu.old (memory_in mem.old) cpu.new (memory_in mem.new) }
     ensures keeps { KeepsPages mem.old mem.new }
 {

@@ -50,12 +50,7 @@ fn step_whole(instr: &Instr, len: u8, cpu: &mut Cpu, mem: &mut Pages) -> Result<
 
 // So it does: in place where it can.
 #[tactic(auto, using(crate::proofs::Stepping::keeps_then))]
-fn step_plain(
-    instr: &Instr,
-    len: u8,
-    cpu: &mut Cpu,
-    mem: &mut Pages,
-) -> Result<Stepped, AllocError>
+fn step_plain(instr: &Instr, len: u8, cpu: &mut Cpu, mem: &mut Pages) -> Result<Stepped, AllocError>
     requires no_call { instr.now ≢ variants.Int80 }
     ensures steps { StepsOrStays instr.now len result cpu.old (memory_in mem.old) cpu.new (memory_in mem.new) }
     ensures keeps { KeepsPages mem.old mem.new }

@@ -1,15 +1,11 @@
-use Rattle.std.proofs.Common.{◌≡◌, ◌+◌, [], ◌∷◌, ap, ◌∙◌, refl, false, true}
+use Rattle.std.proofs.Common.{◌+◌, [], ◌∷◌, ap, ◌∙◌}
 use Rattle.memory.specs.Memory.{wrapped}
 use Rattle.mem_pages.specs.Contents.{memory_in}
 use Rattle.x86_types.specs.declared.instr.Instr.TheVariants as instr
-use Rattle.x86_types.specs.declared.operand.Rm.TheVariants as rm
-use Rattle.x86_types.specs.Numbers.{number_of_reg}
 use Rattle.x86_meaning.specs.Effect.{effect_of}
-use Rattle.x86_meaning.specs.Outcomes.{Falls, JumpsBy, computed}
-use Rattle.x86_meaning.specs.TransferShapes.{esp, register, stack_word}
 use Rattle.x86_step.specs.Computed.{computation_of, values_of}
 use Rattle.x86_step.specs.Steps.{registers_of}
-use Rattle.x86_step.specs.Transferred.{location_of, operand_of}
+use Rattle.x86_step.specs.Transferred.{operand_of}
 use Rattle.x86_step.proofs.Made.{performs}
 use Rattle.x86_step.proofs.FlowForms.{ret_form}
 use Rattle.x86_step.proofs.fast_flow.ret_at.Goals as goal

@@ -1,10 +1,8 @@
-use Rattle.std.proofs.Common.{◌≡◌, ◌+◌, [], ◌∷◌, ap, ◌∙◌}
+use Rattle.std.proofs.Common.{◌+◌, [], ◌∷◌, ap, ◌∙◌}
 use Rattle.memory.specs.Memory.{wrapped}
 use Rattle.mem_pages.specs.Contents.{memory_in}
 use Rattle.x86_types.specs.declared.instr.Instr.TheVariants as instr
-use Rattle.x86_types.specs.Numbers.{size_of}
 use Rattle.x86_meaning.specs.Effect.{effect_of}
-use Rattle.x86_meaning.specs.Operands.{operand}
 use Rattle.x86_step.specs.Computed.{computation_of, values_of}
 use Rattle.x86_step.specs.Steps.{registers_of}
 use Rattle.x86_step.specs.Transferred.{location_of, operand_of}

@@ -1,4 +1,4 @@
-use Rattle.std.proofs.Common.{◌≡◌, ◌+◌, [], ◌∷◌, ap, ◌∙◌}
+use Rattle.std.proofs.Common.{◌+◌, [], ◌∷◌, ap, ◌∙◌}
 use Rattle.memory.specs.Memory.{wrapped}
 use Rattle.mem_pages.specs.Contents.{memory_in}
 use Rattle.x86_types.specs.declared.instr.Instr.TheVariants as instr

@@ -1,4 +1,4 @@
-use Rattle.std.proofs.Common.{◌≡◌, Some, None, sym, ap, ◌∙◌}
+use Rattle.std.proofs.Common.{ap, ◌∙◌}
 use Rattle.x86_values.specs.Words.{known}
 use Rattle.mem_pages.specs.Contents.{memory_in}
 use Rattle.memory.specs.Memory.{forget_below}

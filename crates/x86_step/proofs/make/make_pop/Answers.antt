@@ -13,5 +13,5 @@ returns-in-Some-clause-made c =
       esp = c.in-Some.end;
       is_esp = ap known (sym c.esp_left.ensures) ∙ sym c.in-Some.ensures;
       is_allowed = refl;
-      memory_is = c.forget_below.ensures.forgets
+      memory_is = c.forget_below.ensures.forgets;
     }

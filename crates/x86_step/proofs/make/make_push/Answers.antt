@@ -14,5 +14,5 @@ returns-in-Ok-clause-made c =
       esp = c.in-Some.end;
       is_esp = ap known (sym (esp_written c.args.esp (registers_of c.args.cpu.now.regs))) ∙ sym c.in-Some.ensures;
       is_allowed = c.in-Ok.ensures.stores.allowed;
-      memory_is = c.forget_below.ensures.forgets ∙ ap (forget_below c.in-Some.end) c.in-Ok.ensures.stores.memory
+      memory_is = c.forget_below.ensures.forgets ∙ ap (forget_below c.in-Some.end) c.in-Ok.ensures.stores.memory;
     }

@@ -1,9 +1,8 @@
-use Rattle.std.proofs.Common.{◌≡◌, [], ◌∷◌, Some, None, ap, ◌∙◌}
+use Rattle.std.proofs.Common.{[], ◌∷◌, None}
 use Rattle.mem_pages.specs.Contents.{memory_in}
 use Rattle.x86_types.specs.Numbers.{number_of_reg}
 use Rattle.x86_meaning.specs.Outcomes.{computed}
 use Rattle.x86_meaning.specs.Registers.{with_register}
-
 use Rattle.x86_step.specs.Computed.{way_of}
 use Rattle.x86_step.specs.Steps.{registers_of}
 use Rattle.x86_step.specs.Transferred.{field_of}

@@ -1,4 +1,4 @@
-use Rattle.std.proofs.Common.{◌≡◌, [], ◌∷◌, None, refl}
+use Rattle.std.proofs.Common.{[], ◌∷◌, None, refl}
 use Rattle.mem_pages.specs.Contents.{memory_in}
 use Rattle.x86_meaning.specs.Outcomes.{computed}
 use Rattle.x86_step.specs.Computed.{way_of}

@@ -1,7 +1,6 @@
-use Rattle.std.proofs.Common.{◌≡◌, [], ◌∷◌, Some, None, ap, ◌∙◌}
+use Rattle.std.proofs.Common.{[], ◌∷◌, Some, None}
 use Rattle.mem_pages.specs.Contents.{memory_in}
 use Rattle.x86_meaning.specs.Outcomes.{computed}
-
 use Rattle.x86_step.specs.Computed.{way_of}
 use Rattle.x86_step.specs.Steps.{registers_of}
 use Rattle.x86_step.specs.Transferred.{operand_of}

@@ -1,9 +1,8 @@
-use Rattle.std.proofs.Common.{◌≡◌, [], ◌∷◌, Some, None, refl}
+use Rattle.std.proofs.Common.{[], ◌∷◌, Some, refl}
 use Rattle.mem_pages.specs.Contents.{memory_in}
-use Rattle.x86_types.specs.Numbers.{number_of_reg}
 use Rattle.x86_meaning.specs.Outcomes.{computed}
 use Rattle.x86_meaning.specs.Registers.{with_register}
-use Rattle.x86_meaning.specs.TransferShapes.{esp, register, stack_word}
+use Rattle.x86_meaning.specs.TransferShapes.{esp, stack_word}
 use Rattle.x86_step.specs.declared.operand.Size.TheVariants.{Four}
 use Rattle.x86_step.specs.Computed.{way_of}
 use Rattle.x86_step.specs.Steps.{registers_of}

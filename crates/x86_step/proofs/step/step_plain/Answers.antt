@@ -1,5 +1,4 @@
 use Rattle.mem_pages.specs.Contents.{memory_in}
-use Rattle.x86_step.specs.Making.{FastOrStays}
 use Rattle.x86_step.proofs.Stepping.{steps_after, made_in_place}
 use Rattle.x86_step.proofs.step.step_plain.Goals as goal
 

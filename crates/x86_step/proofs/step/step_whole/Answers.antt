@@ -1,9 +1,7 @@
-use Rattle.std.proofs.Common.{◌≡◌, ℕ, ◌+◌, Ok, Err}
 use Rattle.mem_pages.specs.Contents.{memory_in}
-use Rattle.memory.specs.Memory.{wrapped}
 use Rattle.x86_meaning.specs.Registers.{machine_naming}
 use Rattle.x86_meaning.specs.Transfers.{transfer}
-use Rattle.x86_step.specs.Judged.{effect_read, effect_seen, processor_of}
+use Rattle.x86_step.specs.Judged.{processor_of}
 use Rattle.x86_step.specs.Steps.{registers_of}
 use Rattle.x86_step.proofs.Judging.{step_goes, step_stops}
 use Rattle.x86_step.proofs.Stepping.{plain, step_answers, stops}
