@@ -1,3 +1,1 @@
-pub mod Giving
-pub mod Kept
-pub mod Reading
+pub mod Stub

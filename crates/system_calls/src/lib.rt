@@ -3,10 +3,7 @@
 
 mod call;
 mod made;
-mod read;
 mod request;
-mod result;
-mod write;
 
 pub use call::make_call;
 pub use made::Made;
