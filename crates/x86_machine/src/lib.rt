@@ -1,0 +1,11 @@
+//! The machine that runs the program of an image over a host.
+#![tactic(auto)]
+
+mod call;
+mod code;
+mod kept;
+mod machine;
+mod start;
+mod turn;
+
+pub use machine::Machine;
