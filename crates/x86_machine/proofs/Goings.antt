@@ -145,7 +145,7 @@ ends_outside laws k budget m n p a b g h within =
 
 -- all steps are made
 pub spends : LawsBelow → (budget : ℕ) (m n p : Machine) (a b : Told) → GoesOn budget 0 m n a b → Waits n p → IsSpent budget m p a b
-unfolding run_from
+unfolding run_from goes_still
 spends laws budget m n p a b g w = record {
   goes_on = goes_still budget 0 m n p a b g w.as_before g.ended;
   run = λ rest.

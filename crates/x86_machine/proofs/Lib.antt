@@ -5,3 +5,5 @@ pub mod Runs
 pub mod Goings
 pub mod Copying
 pub mod Decoding
+pub mod Calling
+pub mod Stepping

@@ -9,11 +9,12 @@ use Rattle.mem_pages.specs.Ends.{end_of}
 use Rattle.mem_pages.specs.declared.end.RunEnd.{RunEnd}
 use Rattle.mem_pages.specs.declared.end.RunEnd.TheVariants as run
 use Rattle.memory.specs.Memory.{Memory}
-use Rattle.memory.specs.SystemCall.{system_call}
+use Rattle.memory.specs.SystemCall.{Request, system_call}
+use Rattle.x86_types.specs.declared.instr.Instr.{Instr}
 use Rattle.x86_meaning.specs.declared.state.Cpu.{Cpu}
-use Rattle.x86_meaning.specs.Step.{State, request_of, after_call}
+use Rattle.x86_meaning.specs.Step.{State, after_call, step}
 use Rattle.x86_meaning.specs.Run.{machine}
-use Rattle.x86_step.specs.Steps.{state_of}
+use Rattle.x86_step.specs.Steps.{registers_of, state_of}
 use Rattle.sw_host.specs.Told.{Told}
 use Rattle.system_calls.specs.Given.{environment, HasGiven}
 use Rattle.x86_machine.specs.declared.machine.Machine.{Machine}
@@ -44,15 +45,26 @@ pub record Wanted (a b : Told) : Type 0 where
   pub host : HasGiven [] calls [] a b
 
 -- ---- the step of a system call, where eip has moved on
+-- what a call is asked by: eax, ebx, ecx and edx
+abbrev pub asked : Cpu → Request
+asked c = record { number = registers_of c.regs 0; fd = registers_of c.regs 3; at = registers_of c.regs 1; count = registers_of c.regs 2 }
+
 -- a state in which a call is made, with what is left of the outside
 abbrev pub called_from : Cpu → Memory → Environment → Move State
-called_from c m left = after_call (system_call (request_of (state_of c m left).cpu) m left) (state_of c m left)
+called_from c m left = after_call (system_call (asked c) m left) (state_of c m left)
 
 -- what making it does, by its answer: it goes on, or the run ends, or memory was wanting and nothing has changed
 abbrev pub CallsOn : Result (Option RunEnd) AllocError → Cpu → Memory → Cpu → Memory → Told → Told → Type 0
 CallsOn (Ok None) c m d n a b = MoveGoes (called_from c m) (state_of d n) a b
 CallsOn (Ok (Some end)) c m d n a b = MoveHalts (called_from c m) end a b
 CallsOn (Err _) c m d n a b = (d ≡ c) × (n ≡ m) × Wanted a b
+
+-- ---- a step
+-- what making a step of an instruction does, by its answer: it goes on, or the run ends, or memory was wanting and nothing has changed
+abbrev pub StepsOn : Instr → ℕ → Result (Option RunEnd) AllocError → Cpu → Memory → Cpu → Memory → Told → Told → Type 0
+StepsOn i len (Ok None) c m d n a b = MoveGoes (λ left. step i len (state_of c m left)) (state_of d n) a b
+StepsOn i len (Ok (Some end)) c m d n a b = MoveHalts (λ left. step i len (state_of c m left)) end a b
+StepsOn i len (Err _) c m d n a b = (d ≡ c) × (n ≡ m) × Wanted a b
 
 -- ---- a turn
 -- it stands as it did

@@ -6,6 +6,7 @@ mod code;
 mod kept;
 mod machine;
 mod start;
+mod step;
 mod turn;
 
 pub use machine::Machine;

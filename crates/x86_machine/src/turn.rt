@@ -1,16 +1,16 @@
 // One turn of the machine.
 ghost use Rattle.std.specs.Prelude.{◌≡◌, ◌≤◌, None};
 ghost use Rattle.sw_host.specs.Told.{Tells};
+ghost use Rattle.x86_machine.specs.Running.{steps_after};
 ghost use Rattle.x86_machine.specs.Standing.{ended_in};
 ghost use Rattle.x86_machine.specs.Turning.{Turns, Rests};
 
 use crate::Machine;
-use crate::call::call;
+use crate::step::make_step;
 use mem_pages::RunEnd;
 use std::alloc::AllocError;
 use sw_host::Host;
 use x86_meaning::step_laws;
-use x86_step::{Stepped, step_one};
 
 /// What a turn comes to: the run goes on, a step has ended it, or no instruction stands there, so that it has ended without a step.
 #[derive(Clone, Copy, Debug, PartialEq, Eq)]
@@ -20,12 +20,14 @@ pub enum Turned {
     Outside,
 }
 
-impl Machine {
-    // One more step is counted, up to the greatest number.
-    fn count(&mut self) {
-        self.steps = self.steps.saturating_add(1);
-    }
+// The count of steps after one more.
+fn one_more(steps: u64) -> u64
+    ensures { result ≡ steps_after 1 steps }
+{
+    steps.saturating_add(1)
+}
 
+impl Machine {
     /// Makes a step.
     pub(crate) fn turn<H: Host>(&mut self, host: &mut H) -> Result<Turned, AllocError>
         requires { ended_in self.old ≡ None }
@@ -33,30 +35,26 @@ impl Machine {
         ensures faults { H.faults host.old ≤ H.faults host.new }
     {
         step_laws();
-        let eip = self.cpu.eip;
-        let Some(index) = self.code.fetch(eip)? else {
-            self.ended = Some(RunEnd::Outside);
-            return Ok(Turned::Outside);
+        let index = match self.code.fetch(self.cpu.eip) {
+            Err(error) => return Err(error),
+            Ok(None) => {
+                self.ended = Some(RunEnd::Outside);
+                return Ok(Turned::Outside);
+            }
+            Ok(Some(index)) => index,
         };
         let kept = self.code.get(index);
-        let end = match step_one(&kept.instr, kept.len, &mut self.cpu, &mut self.pages)? {
-            Stepped::Next => None,
-            Stepped::Call => match call(self.alloc, &mut self.cpu, &mut self.pages, host) {
-                Ok(end) => end,
-                Err(error) => {
-                    self.cpu.eip = eip;
-                    return Err(error);
-                }
-            },
-            Stepped::MemoryFault => Some(RunEnd::MemoryFault),
-            Stepped::DivideFault => Some(RunEnd::DivideFault),
-            Stepped::Unspecified => Some(RunEnd::Unspecified),
-        };
-        self.count();
-        self.ended = end;
-        match end {
-            None => Ok(Turned::On),
-            Some(end) => Ok(Turned::Ended(end)),
+        match make_step(self.alloc, kept, &mut self.cpu, &mut self.pages, host) {
+            Err(error) => Err(error),
+            Ok(None) => {
+                self.steps = one_more(self.steps);
+                Ok(Turned::On)
+            }
+            Ok(Some(end)) => {
+                self.steps = one_more(self.steps);
+                self.ended = Some(end);
+                Ok(Turned::Ended(end))
+            }
         }
     }
 
@@ -66,10 +64,13 @@ impl Machine {
         ensures { Rests result self.old self.new }
     {
         step_laws();
-        if self.code.fetch(self.cpu.eip)?.is_some() {
-            return Ok(RunEnd::Spent);
+        match self.code.fetch(self.cpu.eip) {
+            Err(error) => Err(error),
+            Ok(Some(_)) => Ok(RunEnd::Spent),
+            Ok(None) => {
+                self.ended = Some(RunEnd::Outside);
+                Ok(RunEnd::Outside)
+            }
         }
-        self.ended = Some(RunEnd::Outside);
-        Ok(RunEnd::Outside)
     }
 }
