@@ -7,3 +7,5 @@ pub mod Copying
 pub mod Decoding
 pub mod Calling
 pub mod Stepping
+pub mod Moving
+pub mod Turning
