@@ -9,3 +9,4 @@ pub mod Calling
 pub mod Stepping
 pub mod Moving
 pub mod Turning
+pub mod Fetching

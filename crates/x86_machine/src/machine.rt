@@ -55,7 +55,7 @@ impl Machine {
         if let Some(end) = self.ended {
             return Ok(end);
         }
-        for _ in 0..budget {
+        for i in 0..budget {
             match self.turn(host)? {
                 Turned::On => {}
                 Turned::Ended(end) => return Ok(end),
