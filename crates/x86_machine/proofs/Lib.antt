@@ -10,3 +10,4 @@ pub mod Stepping
 pub mod Moving
 pub mod Turning
 pub mod Fetching
+pub mod Running

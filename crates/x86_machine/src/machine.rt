@@ -12,7 +12,8 @@ use image::Image;
 use mem_pages::{Pages, RunEnd};
 use std::alloc::{AllocError, Global};
 use sw_host::Host;
-use x86_meaning::{Cpu, Meaning, program_laws, step_laws};
+use traces::{run_laws, trace_laws};
+use x86_meaning::{Cpu, Meaning};
 
 /// A program's run over an image, as far as it has come.
 #[derive(Drop)]
@@ -52,14 +53,17 @@ impl Machine {
         ensures runs { Tells (H.told host.old) (H.told host.new) (RunsFrom (ended_in self.old) budget result self.old self.new) }
         ensures faults { H.faults host.old ≤ H.faults host.new }
     {
+        trace_laws();
+        run_laws::<Meaning>();
         if let Some(end) = self.ended {
             return Ok(end);
         }
         for i in 0..budget {
-            match self.turn(host)? {
-                Turned::On => {}
-                Turned::Ended(end) => return Ok(end),
-                Turned::Outside => return Ok(RunEnd::Outside),
+            match self.turn(host) {
+                Err(error) => return Err(error),
+                Ok(Turned::On) => {}
+                Ok(Turned::Ended(end)) => return Ok(end),
+                Ok(Turned::Outside) => return Ok(RunEnd::Outside),
             }
         }
         self.rest()

@@ -1,5 +1,5 @@
 // One turn of the machine.
-ghost use Rattle.std.specs.Prelude.{◌≡◌, ◌≤◌, None};
+ghost use Rattle.std.specs.Prelude.{◌≡◌, ◌≤◌, None, Ok};
 ghost use Rattle.sw_host.specs.Told.{Tells};
 ghost use Rattle.x86_machine.specs.Running.{steps_after};
 ghost use Rattle.x86_machine.specs.Standing.{ended_in};
@@ -32,6 +32,7 @@ impl Machine {
     pub(crate) fn turn<H: Host>(&mut self, host: &mut H) -> Result<Turned, AllocError>
         requires { ended_in self.old ≡ None }
         ensures turns { Tells (H.told host.old) (H.told host.new) (Turns result self.old self.new) }
+        ensures on { result ≡ Ok Turned.On → ended_in self.new ≡ None }
         ensures faults { H.faults host.old ≤ H.faults host.new }
     {
         step_laws();
