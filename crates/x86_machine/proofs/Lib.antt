@@ -11,3 +11,4 @@ pub mod Moving
 pub mod Turning
 pub mod Fetching
 pub mod Running
+pub mod Rooms

@@ -55,6 +55,8 @@ impl Machine {
     {
         trace_laws();
         run_laws::<Meaning>();
+        // A count that was read fits.
+        let _steps = self.steps();
         if let Some(end) = self.ended {
             return Ok(end);
         }
