@@ -1,5 +1,5 @@
 -- Memory that is filled with bytes.
-use Rattle.std.proofs.Common.{◌≡◌, ◌≢◌, ◌⊎◌, inl, inr, ℕ, zero, suc, ◌+◌, ◌-◌, ◌*◌, ◌/◌, ◌%◌, ◌^◌, ◌<◌, ◌≤◌, ◌&&◌, Bool, true, false, cond, leb, ltb, List, [], ◌∷◌, ◌++◌, map, length, take, get_or, find, Option, Some, None, refl, sym, ap, ◌∙◌, subst, arith}
+use Rattle.std.proofs.Common.{◌≡◌, ◌≢◌, ◌⊎◌, inl, inr, ℕ, zero, suc, ◌+◌, ◌-◌, ◌*◌, ◌/◌, ◌%◌, ◌^◌, ◌<◌, ◌≤◌, ◌&&◌, Bool, true, false, cond, leb, ltb, List, [], ◌∷◌, ◌++◌, map, length, take, get_or, find, Option, Some, None, Result, Ok, Err, OnOk, refl, sym, ap, ◌∙◌, subst, arith}
 use Rattle.std.proofs.lemmas.Bool.{cases_lt, and_from, and_left, and_right, and_parts, le-leb, lt-leb, lt-ltb, le-ltb, leb-true, ltb-true, cond-true, cond-false, cases_Bool, true≢false}
 use Rattle.std.specs.Option.{option_map}
 use Rattle.x86_values.specs.declared.byte.Byte.{Byte}
@@ -68,7 +68,6 @@ past (x ∷ xs) (suc k) h = past xs k (omega arith)
 
 module _ (laws : MemoryLaws) (s : Segment) (m : Memory) (small : length s.bytes ≤ s.size) (fits : s.start + s.size ≤ 2 ^ 32) where
   region : Memory
-  unfolding region
   region = with_region s.start (s.start + s.size) (has s.perm.0 2) (Known 0) m
 
   bytes_fit : s.start + length s.bytes ≤ 2 ^ 32
@@ -112,11 +111,9 @@ module _ (laws : MemoryLaws) (s : Segment) (m : Memory) (small : length s.bytes 
 -- ---- the stack
 module _ (laws : MemoryLaws) (start esp0 : ℕ) (bytes : List ℕ) (m : Memory) (is_start : start ≡ stack_start esp0) (below_esp : start ≤ esp0) (fits : esp0 + length bytes ≤ 2 ^ 32) where
   stack_region : Memory
-  unfolding stack_region
   stack_region = with_region start (esp0 + length bytes) true Unspecified m
 
   as_stack : Bool → ℕ → Option Place
-  unfolding as_stack
   as_stack b a = cond b (Some (stack_place esp0 bytes a)) (m a)
 
   stack_by : (a : ℕ) (b : Bool) → (leb start a && ltb a (esp0 + length bytes)) ≡ b → with_stack esp0 bytes m a ≡ as_stack b a
@@ -160,3 +157,15 @@ module _ (laws : MemoryLaws) (start esp0 : ℕ) (bytes : List ℕ) (m : Memory) 
   pub stack_filled : filled_region start (esp0 + length bytes) true Unspecified esp0 bytes m ≡ with_stack esp0 bytes m
   unfolding stack_region
   stack_filled = λ i a. stack_at_place a i
+
+-- what holds of a memory after an Ok holds of one that is the same
+pub on_ok : {T E : Type 0} (r : Result T E) (k m n : Memory) → m ≡ n → OnOk r (k ≡ m) → OnOk r (k ≡ n)
+on_ok (Ok x) k m n e h = h ∙ e
+on_ok (Err x) k m n e h = h
+
+pub segment_loaded : MemoryLaws → (s t : Segment) (w : Bool) (bytes : List ℕ) (m : Memory) → t ≡ s → w ≡ has s.perm.0 2 → bytes ≡ t.bytes → length s.bytes ≤ s.size → s.start + s.size ≤ 2 ^ 32 → filled_region t.start (t.start + t.size) w (Known 0) t.start bytes m ≡ with_segment s m
+segment_loaded laws s t w bytes m same wis bis small fits =
+    ap (λ (x : Segment). filled_region x.start (x.start + x.size) w (Known 0) x.start bytes m) same
+        ∙ ap (λ (b : Bool). filled_region s.start (s.start + s.size) b (Known 0) s.start bytes m) wis
+        ∙ ap (λ (ys : List ℕ). filled_region s.start (s.start + s.size) (has s.perm.0 2) (Known 0) s.start ys m) (bis ∙ ap (λ (x : Segment). x.bytes) same)
+        ∙ segment_filled laws s m small fits

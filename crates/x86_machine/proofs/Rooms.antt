@@ -101,3 +101,13 @@ pub stack_room : (image : Image) (esp0 end : ℕ) → FitsWideRoom image.segment
 stack_room image esp0 end fits high = record {
   free = λ a b h k e. ap (λ (m : Memory). m a) (sym (image_memory image)) ∙ segments_memory image.segments a ∙ ap (option_map (place_in a)) (high_free a image.segments fits.each (stack_page esp0 a b high h e));
 }
+
+-- all segments
+take_past : (ss : List Segment) (i : ℕ) → length ss ≤ i → take i ss ≡ ss
+take_past [] zero h = refl
+take_past [] (suc i) h = refl
+take_past (s ∷ ss) zero h = absurd (omega (arith, h))
+take_past (s ∷ ss) (suc i) h = ap (λ ts. s ∷ ts) (take_past ss i (omega arith))
+
+pub all_segments : (image : Image) (ss : List Segment) (i : ℕ) → length ss ≤ i → ss ≡ image.segments → memory_of (image_with (take i ss) 0) ≡ memory_of image
+all_segments image ss i h is = ap (λ ts. memory_of (image_with ts 0)) (take_past ss i h ∙ is) ∙ image_memory image

@@ -1,5 +1,6 @@
 // The memory and the processor at the start of a run.
 ghost use Rattle.std.specs.Prelude.{◌≡◌, ◌+◌, ◌≤◌, ◌^◌, length, IfOk, OnOk};
+ghost use Rattle.image.specs.Addresses.{has};
 ghost use Rattle.mem_pages.specs.Contents.{memory_in};
 ghost use Rattle.mem_pages.specs.Regions.{HasRoom, unmapped};
 ghost use Rattle.memory.specs.Memory.{memory_of, stack_start, with_stack};
@@ -58,6 +59,13 @@ fn add_filled(
     }
 }
 
+// Whether the bytes of a segment can be written.
+fn can_write(segment: &Segment) -> bool
+    ensures { result ≡ has segment.now.perm.0 2 }
+{
+    segment.perm.contains(Perm::W)
+}
+
 // Maps a segment and fills it.
 fn add_segment(pages: &mut Pages, segment: &Segment) -> Result<(), AllocError>
     requires { HasRoom segment.now.start (segment.now.start + segment.now.size) (memory_in pages.old) }
@@ -66,9 +74,8 @@ fn add_segment(pages: &mut Pages, segment: &Segment) -> Result<(), AllocError>
     has_its_place(segment);
     memory_laws();
     let end = segment.start + segment.size;
-    let can_write = segment.perm.contains(Perm::W);
     let bytes = segment.bytes.as_slice();
-    add_filled(pages, segment.start, end, can_write, Byte::Known(0), segment.start, bytes)
+    add_filled(pages, segment.start, end, can_write(segment), Byte::Known(0), segment.start, bytes)
 }
 
 // Maps the segments of an image and fills them.
