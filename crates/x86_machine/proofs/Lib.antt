@@ -12,3 +12,4 @@ pub mod Turning
 pub mod Fetching
 pub mod Running
 pub mod Rooms
+pub mod Starting

@@ -45,6 +45,6 @@ code_bytes-same image entry a zero = refl
 code_bytes-same image entry a (suc n) = ap (λ b. then_code b (code_bytes (image_with (map code_segment image.segments) entry) (a + 1) n)) (code_byte-same image entry a) ∙ ap (then_code (code_byte_at image a)) (code_bytes-same image entry (a + 1) n)
 
 -- so they have the same instructions
-pub code-same : (image : Image) → code_by (map code_segment image.segments) ≡ code_of image
+pub code_same : (image : Image) → code_by (map code_segment image.segments) ≡ code_of image
 unfolding code_by code_of
-code-same image = λ i a. ap front (code_bytes-same image 0 a 15) i
+code_same image = λ i a. ap front (code_bytes-same image 0 a 15) i
