@@ -1,2 +1,5 @@
+pub mod Kept
+pub mod Loading
 pub mod Standing
 pub mod Running
+pub mod Turning

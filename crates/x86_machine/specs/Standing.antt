@@ -1,4 +1,4 @@
--- Where a machine stands in a run. (The words over its fields: a stub.)
+-- Where a machine stands in a run.
 use Rattle.std.specs.Prelude.{◌≡◌, ℕ, List, Option, None}
 use Rattle.image.specs.declared.image.Image.{Image}
 use Rattle.outside.specs.Environment.{Environment}
@@ -9,10 +9,11 @@ use Rattle.x86_meaning.specs.Step.{State}
 use Rattle.x86_meaning.specs.Run.{start_of}
 use Rattle.x86_step.specs.Steps.{state_of}
 use Rattle.x86_machine.specs.declared.machine.Machine.{Machine}
+use Rattle.x86_machine.specs.Kept.{code_by}
 
 -- which instructions its run has
 unfoldable pub code_in : Machine → Code
-code_in m a = None
+code_in m = code_by m.code.segments
 
 -- the state in which it stands, with what is left of the outside
 unfoldable pub state_in : Machine → Environment → State

@@ -1,6 +1,12 @@
-//! The machine that runs: a stub that is never started.
+//! The machine that runs the program of an image over a host.
 #![tactic(auto)]
 
+mod call;
+mod code;
+mod kept;
 mod machine;
+mod start;
+mod step;
+mod turn;
 
 pub use machine::Machine;

@@ -1,35 +1,46 @@
-use Rattle.std.proofs.Common.{◌≡◌, ◌≤◌, ℕ, [], Option, Some, None, Ok, Err, Result, append-nil, refl, sym, subst, arith}
-use Rattle.std.specs.declared.alloc.AllocError.{AllocError}
-use Rattle.outside.specs.declared.answer.Answer.{Answer}
-use Rattle.mem_pages.specs.declared.end.RunEnd.{RunEnd}
-use Rattle.sw_host.specs.Told.{Told, Tells, last_count}
-use Rattle.sw_host.specs.Chains.{tells_none}
-use Rattle.traces.specs.Steps.{rests}
-use Rattle.system_calls.specs.Given.{environment}
-use Rattle.x86_machine.specs.declared.machine.Machine.{Machine}
-use Rattle.x86_machine.specs.Standing.{ended_in, state_in, steps_in}
-use Rattle.x86_machine.specs.Running.{Runs, RunsFrom, GoesOn}
+use Rattle.std.proofs.Common.{◌≡◌, ℕ, ◌<◌, ◌^◌, Ok, refl, sym, ap, ◌∙◌, arith}
+use Rattle.x86_machine.specs.Standing.{steps_in}
+use Rattle.x86_machine.proofs.Goings.{LawsBelow}
+use Rattle.x86_machine.proofs.Running.{ended_before, starts, turned_on, turned_last, turned_outside, turned_wanting, rested}
 use Rattle.x86_machine.proofs.machine.Machine.run.Goals as goal
 
-stays : (m : Machine) (a : Told) → ended_in m ≡ None → steps_in m ≤ 18446744073709551615 → GoesOn 0 0 m m a a
-stays m a e few = record {
-  answers = [];
-  labels = [];
-  reaches = λ rest. rests (state_in m (environment a rest));
-  host = record { given = sym (append-nil a.given); taken = refl; left = refl; moved = sym (append-nil a.moved); shown = refl; calls = refl; files = refl; lines = refl; failing = refl };
-  code = refl;
-  counted = omega arith;
-  ended = e;
-}
-
 pub returns-in-Some-clause-runs : goal.returns-in-Some-clause-runs
-returns-in-Some-clause-runs g c =
-    let m = c.args.self.now in
-    let P = λ (o : Option RunEnd). (a : Told) → RunsFrom o c.args.budget (Ok c.in-Some.end) m m a a in
-    tells_none _ (RunsFrom (ended_in m) c.args.budget (Ok c.in-Some.end) m m) (subst P (sym c.in-Some.is) (λ a. (refl, record { machine = refl; host = refl })))
+returns-in-Some-clause-runs g c = ended_before (g.H.Host.told c.args.host.now) c.args.self.now c.args.budget _ c.in-Some.is
 
-pub returns-in-None-clause-runs : goal.returns-in-None-clause-runs
-returns-in-None-clause-runs g c =
-    let m = c.args.self.now in
-    let P = λ (o : Option RunEnd). (a : Told) → RunsFrom o c.args.budget (Err (record {})) m m a a in
-    tells_none _ (RunsFrom (ended_in m) c.args.budget (Err (record {})) m m) (subst P (sym c.in-None.is) (λ a. (0, 0, omega arith, stays m a c.in-None.is m.few)))
+pub loop-i-init : goal.loop-i-init
+loop-i-init g c =
+    let few : steps_in c.args.self.now < 2 ^ 64 = omega (arith, c.steps-steps.ensures, c.steps-steps.type_inv) in
+    record { goes_on = starts (g.H.Host.told c.args.host.now) c.args.self.now few c.in_default.is; open_start = c.in_default.is; open_now = c.in_default.is; faults = omega arith }
+
+pub loop-i-preserved : goal.loop-i-preserved
+loop-i-preserved g c =
+    let laws : LawsBelow = record { traces = c.trace_laws.ensures; runs = c.run_laws.ensures } in
+    let h = rw c.in-Ok-On.field-0-is at c.in-Ok-On.ensures.turns in
+    record {
+      goes_on = turned_on laws (g.H.Host.told c.args.host.now) (g.H.Host.told c.loop-i.host) (g.H.Host.told c.turn.new.host) c.loop-i.i c.args.self.now c.loop-i.self c.turn.new.self c.loop-i.invariant.goes_on h;
+      open_start = c.loop-i.invariant.open_start;
+      open_now = c.turn.ensures.on (c.in-Ok-On.is ∙ ap Ok c.in-Ok-On.field-0-is);
+      faults = omega (arith, c.loop-i.invariant.faults, c.turn.ensures.faults);
+    }
+
+pub returns-in-Err-clause-runs : goal.returns-in-Err-clause-runs
+returns-in-Err-clause-runs g c =
+    let laws : LawsBelow = record { traces = c.trace_laws.ensures; runs = c.run_laws.ensures } in
+    turned_wanting laws (g.H.Host.told c.args.host.now) (g.H.Host.told c.loop-i.host) (g.H.Host.told c.turn.new.host) c.loop-i.i c.args.self.now c.loop-i.self c.turn.new.self c.loop-i.invariant.goes_on c.args.budget c.loop-i.invariant.open_start _ (omega (arith, c.loop-i-test.true)) c.in-Err.ensures.turns
+
+pub returns-in-Ok-Ended-clause-runs : goal.returns-in-Ok-Ended-clause-runs
+returns-in-Ok-Ended-clause-runs g c =
+    let laws : LawsBelow = record { traces = c.trace_laws.ensures; runs = c.run_laws.ensures } in
+    let h = rw c.in-Ok-Ended.field-0-is at c.in-Ok-Ended.ensures.turns in
+    turned_last laws (g.H.Host.told c.args.host.now) (g.H.Host.told c.loop-i.host) (g.H.Host.told c.turn.new.host) c.loop-i.i c.args.self.now c.loop-i.self c.turn.new.self c.loop-i.invariant.goes_on c.args.budget c.loop-i.invariant.open_start c.in-Ok-Ended.end (omega (arith, c.loop-i-test.true)) h
+
+pub returns-in-Ok-Outside-clause-runs : goal.returns-in-Ok-Outside-clause-runs
+returns-in-Ok-Outside-clause-runs g c =
+    let laws : LawsBelow = record { traces = c.trace_laws.ensures; runs = c.run_laws.ensures } in
+    let h = rw c.in-Ok-Outside.field-0-is at c.in-Ok-Outside.ensures.turns in
+    turned_outside laws (g.H.Host.told c.args.host.now) (g.H.Host.told c.loop-i.host) (g.H.Host.told c.turn.new.host) c.loop-i.i c.args.self.now c.loop-i.self c.turn.new.self c.loop-i.invariant.goes_on c.args.budget c.loop-i.invariant.open_start (omega (arith, c.loop-i-test.true)) h
+
+pub returns-clause-runs : goal.returns-clause-runs
+returns-clause-runs g c =
+    let laws : LawsBelow = record { traces = c.trace_laws.ensures; runs = c.run_laws.ensures } in
+    rested laws (g.H.Host.told c.args.host.now) (g.H.Host.told c.loop-i.host) c.args.budget c.loop-i.i c.args.self.now c.loop-i.self c.rest.new.self _ (omega (arith, c.loop-i-test.false, c.loop-i.auto.i-end)) c.loop-i.invariant.open_start c.loop-i.invariant.goes_on c.rest.ensures

@@ -1,0 +1,15 @@
+pub mod Segments
+pub mod Filling
+pub mod Giving
+pub mod Runs
+pub mod Goings
+pub mod Copying
+pub mod Decoding
+pub mod Calling
+pub mod Stepping
+pub mod Moving
+pub mod Turning
+pub mod Fetching
+pub mod Running
+pub mod Rooms
+pub mod Starting
