@@ -123,6 +123,7 @@ two_parts a mid high o l = forget_joined _ _ o (apart a mid high) ∙ ap (λ t. 
   where
     joined : (a mid high : ℕ) → mid ≤ high → ((leb mid a && ltb a high) || (leb 0 a && ltb a mid)) ≡ ltb a high
     joined a mid high l = grind (arith, nat_tests)
+
     apart : (a mid high : ℕ) → (leb mid a && ltb a high) ≡ true → (leb 0 a && ltb a mid) ≡ false
     apart a mid high h = grind (arith, nat_tests)
 

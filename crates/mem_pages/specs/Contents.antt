@@ -10,7 +10,7 @@ use Rattle.mem_pages.specs.Exposed.{lists}
 unfoldable pub memory_in : Pages → Memory
 memory_in p = forget_below p.lowest (contents p.directory)
 
--- whether the page of an address is kept, so that no access of it takes memory
+-- whether the page of an address is kept, so that no access of it fails for want of memory
 unfoldable pub is_kept : Pages → ℕ → Bool
 is_kept p a = keeps p.directory a
 

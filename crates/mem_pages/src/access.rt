@@ -99,7 +99,7 @@ impl Pages {
         Ok(())
     }
 
-    /// Keeps the pages of the mapped places from an address on, so that filling them takes no memory.
+    /// Keeps the pages of the mapped places from an address on, so that filling them can't fail for want of memory.
     pub fn keep(&mut self, at: u32, count: u32) -> Result<(), AllocError>
         requires { at + count ≤ 2 ^ 32 }
         ensures same { SameMemory self.old self.new }

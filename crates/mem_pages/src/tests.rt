@@ -43,3 +43,22 @@ fn a_stack(rt: HostRuntime) -> Result<(), Fail> {
     assert_eq!(rt; pages.read(20480), Ok(Byte::Known(0)));
     Ok(())
 }
+
+#[test]
+fn pages_forgotten_and_written_again(rt: HostRuntime) -> Result<(), Fail> {
+    let mut pages = Pages::new(rt.alloc());
+    pages.add_region(16384, 65536, true, Byte::Unspecified)?;
+    pages.store(61440, 4, word_of(1)).ok().ok_or("high")?;
+    pages.store(20480, 4, word_of(2)).ok().ok_or("low")?;
+    assert_eq!(rt; pages.read(61440), Ok(Byte::Known(1)));
+    pages.forget_below(65000);
+    pages.write(20488, Byte::Known(3)).ok().ok_or("low again")?;
+    assert_eq!(rt; pages.read(20480), Ok(Byte::Unspecified));
+    assert_eq!(rt; pages.read(20488), Ok(Byte::Known(3)));
+    assert_eq!(rt; pages.read(61440), Ok(Byte::Unspecified));
+    pages.write(61441, Byte::Known(4)).ok().ok_or("high again")?;
+    assert_eq!(rt; pages.read(61440), Ok(Byte::Unspecified));
+    assert_eq!(rt; pages.read(61441), Ok(Byte::Known(4)));
+    assert_eq!(rt; pages.read(20488), Ok(Byte::Known(3)));
+    Ok(())
+}
