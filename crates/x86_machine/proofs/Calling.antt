@@ -1,19 +1,19 @@
 -- The step of a system call, where eip has moved on.
-use Rattle.std.proofs.Common.{◌≡◌, ℕ, zero, suc, ◌<◌, eqb, cond, List, [], ◌∷◌, ◌++◌, length, get_or, set, Option, Some, None, Result, Ok, Err, refl, sym, ap, ◌∙◌, subst, arith}
+use Rattle.std.proofs.Common.{◌≡◌, ℕ, zero, suc, ◌<◌, eqb, List, [], ◌∷◌, ◌++◌, length, get_or, set, Option, Some, None, Ok, Err, refl, sym, ap, ◌∙◌, subst, arith}
 use Rattle.std.proofs.lemmas.Bool.{cond-false, ne_eqb}
 use Rattle.std.specs.declared.alloc.AllocError.{AllocError}
 use Rattle.outside.specs.declared.answer.Answer.{Answer}
 use Rattle.outside.specs.Environment.{Environment}
-use Rattle.traces.specs.Trace.{Label, End, Move, Go, Halt, Unspecified}
+use Rattle.traces.specs.Trace.{End, Go, Halt, Unspecified}
 use Rattle.mem_pages.specs.Ends.{end_of}
 use Rattle.mem_pages.specs.declared.end.RunEnd.{RunEnd}
 use Rattle.mem_pages.specs.declared.end.RunEnd.TheVariants as ends
 use Rattle.x86_values.specs.declared.word.Word.{Word}
 use Rattle.x86_values.specs.Words.{word_of, known}
-use Rattle.memory.specs.Memory.{Memory, Stored, store_all, forget_below}
-use Rattle.memory.specs.SystemCall.{Request, Called, Ends, Gives, system_call}
+use Rattle.memory.specs.Memory.{Memory, forget_below}
+use Rattle.memory.specs.SystemCall.{Request, system_call}
 use Rattle.x86_meaning.specs.declared.state.Cpu.{Cpu}
-use Rattle.x86_meaning.specs.Registers.{Registers, Processor, with_register}
+use Rattle.x86_meaning.specs.Registers.{Registers, with_register}
 use Rattle.x86_meaning.specs.Step.{State, after_call, settled, settled_by, with_result}
 use Rattle.x86_step.specs.Steps.{registers_of, state_of}
 use Rattle.sw_host.specs.Told.{Told, Tells}

@@ -1,5 +1,5 @@
 -- What is decoded where no instruction stands.
-use Rattle.std.proofs.Common.{◌≡◌, ◌↔◌, ℕ, Option, Some, None, refl, ap, ◌∙◌, sym}
+use Rattle.std.proofs.Common.{◌≡◌, ◌↔◌, ℕ, Option, Some, None, refl}
 use Rattle.x86_types.specs.declared.instr.Instr.{Instr}
 use Rattle.x86_decode.specs.declared.decoding.Decoded.{Decoded}
 use Rattle.x86_decode.specs.declared.decoding.Decoded.TheVariants.{One, Outside, Short}

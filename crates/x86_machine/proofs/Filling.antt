@@ -1,14 +1,13 @@
 -- Memory that is filled with bytes.
-use Rattle.std.proofs.Common.{◌≡◌, ◌≢◌, ◌⊎◌, inl, inr, ℕ, zero, suc, ◌+◌, ◌-◌, ◌*◌, ◌/◌, ◌%◌, ◌^◌, ◌<◌, ◌≤◌, ◌&&◌, Bool, true, false, cond, leb, ltb, List, [], ◌∷◌, ◌++◌, map, length, take, get_or, find, Option, Some, None, Result, Ok, Err, OnOk, refl, sym, ap, ◌∙◌, subst, arith}
-use Rattle.std.proofs.lemmas.Bool.{cases_lt, and_from, and_left, and_right, and_parts, le-leb, lt-leb, lt-ltb, le-ltb, leb-true, ltb-true, cond-true, cond-false, cases_Bool, true≢false}
-use Rattle.std.specs.Option.{option_map}
+use Rattle.std.proofs.Common.{◌≡◌, ◌≢◌, ◌⊎◌, inl, inr, ℕ, zero, suc, ◌+◌, ◌-◌, ◌^◌, ◌<◌, ◌≤◌, ◌&&◌, Bool, true, false, cond, leb, ltb, List, [], ◌∷◌, map, length, get_or, Option, Some, Result, Ok, Err, OnOk, refl, sym, ap, ◌∙◌, subst, arith}
+use Rattle.std.proofs.lemmas.Bool.{cases_lt, and_from, and_left, and_right, le-leb, lt-leb, lt-ltb, le-ltb}
 use Rattle.x86_values.specs.declared.byte.Byte.{Byte}
 use Rattle.x86_values.specs.declared.byte.Byte.TheVariants.{Known, Unspecified}
 use Rattle.image.specs.declared.image.Segment.{Segment}
-use Rattle.image.specs.Addresses.{has, holds, segment_byte}
+use Rattle.image.specs.Addresses.{has}
 use Rattle.memory.specs.Memory.{Place, Memory, wrapped, with_byte, put_all, place_in, stack_place, stack_start, with_stack}
 use Rattle.memory.specs.MemoryLaws.{MemoryLaws}
-use Rattle.mem_pages.specs.Regions.{with_region, region_place, HasRoom}
+use Rattle.mem_pages.specs.Regions.{with_region, region_place}
 use Rattle.x86_machine.specs.Loading.{filled_region, with_segment}
 
 -- ---- bytes that are put below 2^32
@@ -32,7 +31,7 @@ module _ (laws : MemoryLaws) (at : ℕ) (bytes : List ℕ) (m : Memory) (within 
       let inside : k < length (map Known bytes) = omega (arith, len, h) in
       let w : wrapped (at + k) ≡ at + k = wrapped_small (at + k) (omega (arith, within, h)) in
       subst (λ (a : ℕ). put_all at (map Known bytes) m a ≡ with_byte (Known (get_or bytes k 0)) (m a)) w
-          (laws.put_all_there at (map Known bytes) m k few inside ∙ ap (λ (b : Byte). with_byte b (m (wrapped (at + k)))) (known-get bytes k h))
+      (laws.put_all_there at (map Known bytes) m k few inside ∙ ap (λ (b : Byte). with_byte b (m (wrapped (at + k)))) (known-get bytes k h))
 
   apart_of : (a k : ℕ) → (a < at) ⊎ (at + length bytes ≤ a) → k < length (map Known bytes) → a ≢ wrapped (at + k)
   apart_of a k o h same =
@@ -87,7 +86,7 @@ module _ (laws : MemoryLaws) (s : Segment) (m : Memory) (small : length s.bytes 
       let below : a < s.start + s.size = omega (arith, h, small) in
       let same : k ≡ a - s.start = omega arith in
       put_there laws s.start s.bytes region bytes_fit k h ∙ ap (with_byte (Known (get_or s.bytes k 0))) (region_there s.start (s.start + s.size) (has s.perm.0 2) (Known 0) m a above below)
-          ∙ ap (λ (j : ℕ). Some (record { byte = Known (get_or s.bytes j 0); can_write = has s.perm.0 2; on_stack = false })) same ∙ sym (ap (λ b. cond b (Some (place_in a s)) (m a)) (inside s.start (s.start + s.size) a above below))
+      ∙ ap (λ (j : ℕ). Some (record { byte = Known (get_or s.bytes j 0); can_write = has s.perm.0 2; on_stack = false })) same ∙ sym (ap (λ b. cond b (Some (place_in a s)) (m a)) (inside s.start (s.start + s.size) a above below))
 
   segment_rest : (a : ℕ) → s.start + length s.bytes ≤ a → a < s.start + s.size → put_all s.start (map Known s.bytes) region a ≡ with_segment s m a
   unfolding region
@@ -95,14 +94,16 @@ module _ (laws : MemoryLaws) (s : Segment) (m : Memory) (small : length s.bytes 
       let from : s.start ≤ a = omega (arith, above) in
       let zero_there : get_or s.bytes (a - s.start) 0 ≡ 0 = past s.bytes (a - s.start) (omega (arith, above)) in
       put_elsewhere laws s.start s.bytes region bytes_fit a (inr above) ∙ region_there s.start (s.start + s.size) (has s.perm.0 2) (Known 0) m a from below
-          ∙ ap (λ (b : ℕ). Some (record { byte = Known b; can_write = has s.perm.0 2; on_stack = false })) (sym zero_there) ∙ sym (ap (λ b. cond b (Some (place_in a s)) (m a)) (inside s.start (s.start + s.size) a from below))
+      ∙ ap (λ (b : ℕ). Some (record { byte = Known b; can_write = has s.perm.0 2; on_stack = false })) (sym zero_there) ∙ sym (ap (λ b. cond b (Some (place_in a s)) (m a)) (inside s.start (s.start + s.size) a from below))
 
   segment_at_place : (a : ℕ) → put_all s.start (map Known s.bytes) region a ≡ with_segment s m a
   segment_at_place a = elim (cases_lt a s.start) [
-      inl below ↦ segment_outside a (inl below)
+    | inl below ↦ segment_outside a (inl below)
     | inr from ↦ elim (cases_lt a (s.start + length s.bytes)) [
-        inl front ↦ (let e : s.start + (a - s.start) ≡ a = omega (arith, from) in subst (λ (x : ℕ). put_all s.start (map Known s.bytes) region x ≡ with_segment s m x) e (segment_front (a - s.start) (omega (arith, from, front))))
-      | inr behind ↦ elim (cases_lt a (s.start + s.size)) [ inl rest ↦ segment_rest a behind rest | inr above ↦ segment_outside a (inr above) ] ] ]
+      | inl front ↦ (let e : s.start + (a - s.start) ≡ a = omega (arith, from) in subst (λ (x : ℕ). put_all s.start (map Known s.bytes) region x ≡ with_segment s m x) e (segment_front (a - s.start) (omega (arith, from, front))))
+      | inr behind ↦ elim (cases_lt a (s.start + s.size)) [ inl rest ↦ segment_rest a behind rest | inr above ↦ segment_outside a (inr above) ]
+    ]
+  ]
 
   pub segment_filled : filled_region s.start (s.start + s.size) (has s.perm.0 2) (Known 0) s.start s.bytes m ≡ with_segment s m
   unfolding region
@@ -131,7 +132,7 @@ module _ (laws : MemoryLaws) (start esp0 : ℕ) (bytes : List ℕ) (m : Memory) 
   stack_below a from below =
       let under : a < esp0 + length bytes = omega (arith, below) in
       put_elsewhere laws esp0 bytes stack_region fits a (inl below) ∙ region_there start (esp0 + length bytes) true Unspecified m a from under
-          ∙ ap (λ (b : Bool). Some (record { byte = cond b Unspecified (Known (get_or bytes (a - esp0) 0)); can_write = true; on_stack = true })) (sym (lt-ltb a esp0 below)) ∙ sym (stack_by a true (inside start (esp0 + length bytes) a from under))
+      ∙ ap (λ (b : Bool). Some (record { byte = cond b Unspecified (Known (get_or bytes (a - esp0) 0)); can_write = true; on_stack = true })) (sym (lt-ltb a esp0 below)) ∙ sym (stack_by a true (inside start (esp0 + length bytes) a from under))
 
   stack_above : (k : ℕ) → k < length bytes → put_all esp0 (map Known bytes) stack_region (esp0 + k) ≡ with_stack esp0 bytes m (esp0 + k)
   unfolding stack_region as_stack
@@ -142,17 +143,20 @@ module _ (laws : MemoryLaws) (start esp0 : ℕ) (bytes : List ℕ) (m : Memory) 
       let same : k ≡ a - esp0 = omega arith in
       let not_below : ltb a esp0 ≡ false = le-ltb a esp0 (omega arith) in
       put_there laws esp0 bytes stack_region fits k h ∙ ap (with_byte (Known (get_or bytes k 0))) (region_there start (esp0 + length bytes) true Unspecified m a from under)
-          ∙ ap (λ (j : ℕ). Some (record { byte = Known (get_or bytes j 0); can_write = true; on_stack = true })) same
-          ∙ ap (λ (b : Bool). Some (record { byte = cond b Unspecified (Known (get_or bytes (a - esp0) 0)); can_write = true; on_stack = true })) (sym not_below) ∙ sym (stack_by a true (inside start (esp0 + length bytes) a from under))
+      ∙ ap (λ (j : ℕ). Some (record { byte = Known (get_or bytes j 0); can_write = true; on_stack = true })) same
+      ∙ ap (λ (b : Bool). Some (record { byte = cond b Unspecified (Known (get_or bytes (a - esp0) 0)); can_write = true; on_stack = true })) (sym not_below) ∙ sym (stack_by a true (inside start (esp0 + length bytes) a from under))
 
   stack_at_place : (a : ℕ) → put_all esp0 (map Known bytes) stack_region a ≡ with_stack esp0 bytes m a
   stack_at_place a = elim (cases_lt a start) [
-      inl under ↦ stack_outside a (inl under)
+    | inl under ↦ stack_outside a (inl under)
     | inr from ↦ elim (cases_lt a esp0) [
-        inl below ↦ stack_below a from below
+      | inl below ↦ stack_below a from below
       | inr above ↦ elim (cases_lt a (esp0 + length bytes)) [
-          inl within ↦ (let e : esp0 + (a - esp0) ≡ a = omega (arith, above) in subst (λ (x : ℕ). put_all esp0 (map Known bytes) stack_region x ≡ with_stack esp0 bytes m x) e (stack_above (a - esp0) (omega (arith, above, within))))
-        | inr behind ↦ stack_outside a (inr behind) ] ] ]
+        | inl within ↦ (let e : esp0 + (a - esp0) ≡ a = omega (arith, above) in subst (λ (x : ℕ). put_all esp0 (map Known bytes) stack_region x ≡ with_stack esp0 bytes m x) e (stack_above (a - esp0) (omega (arith, above, within))))
+        | inr behind ↦ stack_outside a (inr behind)
+      ]
+    ]
+  ]
 
   pub stack_filled : filled_region start (esp0 + length bytes) true Unspecified esp0 bytes m ≡ with_stack esp0 bytes m
   unfolding stack_region
@@ -166,6 +170,6 @@ on_ok (Err x) k m n e h = h
 pub segment_loaded : MemoryLaws → (s t : Segment) (w : Bool) (bytes : List ℕ) (m : Memory) → t ≡ s → w ≡ has s.perm.0 2 → bytes ≡ t.bytes → length s.bytes ≤ s.size → s.start + s.size ≤ 2 ^ 32 → filled_region t.start (t.start + t.size) w (Known 0) t.start bytes m ≡ with_segment s m
 segment_loaded laws s t w bytes m same wis bis small fits =
     ap (λ (x : Segment). filled_region x.start (x.start + x.size) w (Known 0) x.start bytes m) same
-        ∙ ap (λ (b : Bool). filled_region s.start (s.start + s.size) b (Known 0) s.start bytes m) wis
-        ∙ ap (λ (ys : List ℕ). filled_region s.start (s.start + s.size) (has s.perm.0 2) (Known 0) s.start ys m) (bis ∙ ap (λ (x : Segment). x.bytes) same)
-        ∙ segment_filled laws s m small fits
+    ∙ ap (λ (b : Bool). filled_region s.start (s.start + s.size) b (Known 0) s.start bytes m) wis
+    ∙ ap (λ (ys : List ℕ). filled_region s.start (s.start + s.size) (has s.perm.0 2) (Known 0) s.start ys m) (bis ∙ ap (λ (x : Segment). x.bytes) same)
+    ∙ segment_filled laws s m small fits

@@ -1,5 +1,5 @@
 -- What a host gave to two traces, one after another.
-use Rattle.std.proofs.Common.{◌≡◌, ℕ, zero, suc, ◌+◌, min, Bool, true, false, List, [], ◌∷◌, ◌++◌, length, refl, sym, ap, ◌∙◌, append_assoc, append-nil, length-append, add-zero, zero-add, add_assoc, arith}
+use Rattle.std.proofs.Common.{◌≡◌, ℕ, zero, suc, ◌+◌, min, Bool, true, false, List, [], ◌∷◌, ◌++◌, length, refl, sym, ap, ◌∙◌, append_assoc, append-nil, length-append, zero-add, arith}
 use Rattle.outside.specs.declared.answer.Answer.{Answer}
 use Rattle.traces.specs.Trace.{Label, Turn, Took, Made, Read, Write, taken, input_left}
 use Rattle.traces.specs.TraceLaws.{TraceLaws}

@@ -1,7 +1,6 @@
 -- A machine that goes on by one more step, or ends, or wants memory.
-use Rattle.std.proofs.Common.{◌≡◌, ℕ, suc, ◌+◌, ◌<◌, ◌≤◌, ◌^◌, min, List, [], ◌∷◌, ◌++◌, Option, Some, None, Result, Ok, Err, refl, sym, ap, ◌∙◌, subst, append_assoc, append-nil, arith}
+use Rattle.std.proofs.Common.{◌≡◌, ℕ, ◌+◌, ◌<◌, ◌≤◌, ◌^◌, min, List, [], ◌++◌, Some, None, Ok, refl, sym, ap, ◌∙◌, subst, append_assoc, append-nil, arith}
 use Rattle.outside.specs.declared.answer.Answer.{Answer}
-use Rattle.outside.specs.Environment.{Environment}
 use Rattle.traces.specs.Trace.{Label, End, Move, Stand, Go, Halt, seen, run}
 use Rattle.traces.specs.Trace as trace
 use Rattle.traces.specs.Steps.{Reaches, rests}
@@ -18,7 +17,7 @@ use Rattle.system_calls.specs.Given.{environment, HasGiven}
 use Rattle.x86_machine.specs.declared.machine.Machine.{Machine}
 use Rattle.x86_machine.specs.Standing.{code_in, state_in, steps_in, ended_in}
 use Rattle.x86_machine.specs.Running.{steps_after, GoesOn, IsSpent, HasEnded, Runs}
-use Rattle.x86_machine.specs.Turning.{MoveGoes, MoveHalts, Wanted, StandsAsBefore, MadeStep, MadeLast, StoodOutside, Waits}
+use Rattle.x86_machine.specs.Turning.{Wanted, StandsAsBefore, MadeStep, MadeLast, StoodOutside, Waits}
 use Rattle.x86_machine.proofs.Giving.{gives_none, gives_then}
 use Rattle.x86_machine.proofs.Runs.{awake_before, awake_at, halts_within, halts_after, stands_within, rest_awake}
 
@@ -57,7 +56,7 @@ goes_step laws k m n p a b c g h = record {
       let to : State = state_in p (environment c rest) in
       let step : machine (code_in m) mid ≡ Go h.move.labels to = subst (λ (code : Code). machine code mid ≡ Go h.move.labels to) g.code (h.move.goes rest) in
       let all : Reaches (machine (code_in m)) (from (g.answers ++ (h.move.answers ++ rest))) (k + 1) (g.labels ++ h.move.labels) to =
-          laws.runs.reaches_then (machine (code_in m)) (from (g.answers ++ (h.move.answers ++ rest))) k g.labels mid 1 h.move.labels to (g.reaches (h.move.answers ++ rest)) (laws.runs.reaches_step (machine (code_in m)) mid h.move.labels to step) in
+      laws.runs.reaches_then (machine (code_in m)) (from (g.answers ++ (h.move.answers ++ rest))) k g.labels mid 1 h.move.labels to (g.reaches (h.move.answers ++ rest)) (laws.runs.reaches_step (machine (code_in m)) mid h.move.labels to step) in
       subst (λ (answers : List Answer). Reaches (machine (code_in m)) (from answers) (k + 1) (g.labels ++ h.move.labels) to) (sym (append_assoc g.answers h.move.answers rest)) all;
   host = gives_then laws.traces g.answers h.move.answers 0 g.labels h.move.labels a b c g.host h.move.host;
   code = h.code ∙ g.code;
@@ -104,7 +103,7 @@ ends_last laws k budget end m n p a b c g h within =
     let step : (rest : List Answer) → machine (code_in m) (mid rest) ≡ Halt h.move.labels h.move.last = λ rest. subst (λ (code : Code). machine code (mid rest) ≡ Halt h.move.labels h.move.last) g.code (h.move.halts rest) in
     let same : (rest : List Answer) → state_in m (environment a ((g.answers ++ h.move.answers) ++ rest)) ≡ from (h.move.answers ++ rest) = λ rest. ap (λ (answers : List Answer). state_in m (environment a answers)) (append_assoc g.answers h.move.answers rest) in
     let all : (n : ℕ) → k + 1 ≤ n → (rest : List Answer) → run (machine (code_in m)) (state_in m (environment a ((g.answers ++ h.move.answers) ++ rest))) n ≡ seen (g.labels ++ h.move.labels) (end_of end) = λ j few rest.
-        ap (λ (s : State). run (machine (code_in m)) s j) (same rest) ∙ halts_within laws.runs (machine (code_in m)) (from (h.move.answers ++ rest)) k g.labels (mid rest) h.move.labels h.move.last j (g.reaches (h.move.answers ++ rest)) (step rest) few ∙ ap (seen (g.labels ++ h.move.labels)) (sym h.move.is_last) in
+    ap (λ (s : State). run (machine (code_in m)) s j) (same rest) ∙ halts_within laws.runs (machine (code_in m)) (from (h.move.answers ++ rest)) k g.labels (mid rest) h.move.labels h.move.last j (g.reaches (h.move.answers ++ rest)) (step rest) few ∙ ap (seen (g.labels ++ h.move.labels)) (sym h.move.is_last) in
     let one : k + 1 ≤ k + 1 = omega arith in
     record {
       answers = g.answers ++ h.move.answers;

@@ -1,8 +1,7 @@
 -- A step of an instruction goes on or halts: the machine stands at none.
 use Rattle.std.proofs.Common.{◌≡◌, ℕ, ◌+◌, List, [], Bool, true, false, Option, Some, None, Result, Ok, Err, refl}
-use Rattle.outside.specs.Environment.{Environment}
 use Rattle.x86_values.specs.Words.{known}
-use Rattle.traces.specs.Trace.{Label, End, Move, seen, at_rest}
+use Rattle.traces.specs.Trace.{Label, Move, seen, at_rest}
 use Rattle.traces.specs.Machines.{marked}
 use Rattle.memory.specs.SystemCall.{Called, Ends, Gives, system_call}
 use Rattle.x86_types.specs.declared.instr.Instr.{Instr}

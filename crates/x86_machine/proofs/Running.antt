@@ -1,7 +1,6 @@
 -- A machine that is run over a host that tells.
-use Rattle.std.proofs.Common.{◌≡◌, ℕ, ◌+◌, ◌≤◌, ◌<◌, ◌^◌, Option, Some, None, Result, Ok, Err, refl, sym, ap, subst, arith}
+use Rattle.std.proofs.Common.{◌≡◌, ℕ, ◌+◌, ◌≤◌, ◌<◌, ◌^◌, Option, Some, None, Result, Ok, Err, refl, sym, subst, arith}
 use Rattle.std.specs.declared.alloc.AllocError.{AllocError}
-use Rattle.mem_pages.specs.Ends.{end_of}
 use Rattle.mem_pages.specs.declared.end.RunEnd.{RunEnd}
 use Rattle.mem_pages.specs.declared.end.RunEnd.TheVariants as ends
 use Rattle.sw_host.specs.Told.{Told, Tells}
@@ -10,7 +9,7 @@ use Rattle.x86_machine.specs.declared.machine.Machine.{Machine}
 use Rattle.x86_machine.specs.declared.turn.Turned.TheVariants as turned
 use Rattle.x86_machine.specs.Standing.{steps_in, ended_in}
 use Rattle.x86_machine.specs.Running.{GoesOn, Runs, RunsFrom}
-use Rattle.x86_machine.specs.Turning.{Turns, Rests, MadeLast}
+use Rattle.x86_machine.specs.Turning.{Turns, Rests}
 use Rattle.x86_machine.proofs.Goings.{LawsBelow, goes_none, goes_step, goes_still, goes_wanting, ends_last, ends_outside, spends, runs_ended}
 
 -- a run that had ended before

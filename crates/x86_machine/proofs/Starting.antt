@@ -1,5 +1,5 @@
 -- The machine at the start of a run.
-use Rattle.std.proofs.Common.{◌≡◌, ℕ, List, None, refl, ap, ◌∙◌}
+use Rattle.std.proofs.Common.{◌≡◌, ℕ, List, None, ap, ◌∙◌}
 use Rattle.outside.specs.Environment.{Environment}
 use Rattle.image.specs.declared.image.Image.{Image}
 use Rattle.x86_values.specs.declared.word.Flags.{Flags}
@@ -8,7 +8,7 @@ use Rattle.mem_pages.specs.Contents.{memory_in}
 use Rattle.x86_code.specs.Code.{code_of}
 use Rattle.x86_meaning.specs.Registers.{Registers}
 use Rattle.x86_meaning.specs.Step.{State}
-use Rattle.x86_meaning.specs.Run.{first_processor, start_over, start_of}
+use Rattle.x86_meaning.specs.Run.{first_processor, start_over}
 use Rattle.x86_step.specs.Steps.{registers_of}
 use Rattle.x86_machine.specs.declared.machine.Machine.{Machine}
 use Rattle.x86_machine.specs.Kept.{code_by}
@@ -24,9 +24,9 @@ stands_at_start m image esp0 stack code regs flags eip memory steps ended = reco
   code = code;
   state = λ left.
       ap (λ (r : Registers). state_with r m.cpu.flags m.cpu.eip (memory_in m.pages) left) regs
-          ∙ ap (λ (f : Flags). state_with (first_processor esp0).regs f m.cpu.eip (memory_in m.pages) left) flags
-          ∙ ap (λ (at : ℕ). state_with (first_processor esp0).regs (first_processor esp0).flags at (memory_in m.pages) left) eip
-          ∙ ap (λ (k : Memory). state_with (first_processor esp0).regs (first_processor esp0).flags image.entry k left) memory;
+      ∙ ap (λ (f : Flags). state_with (first_processor esp0).regs f m.cpu.eip (memory_in m.pages) left) flags
+      ∙ ap (λ (at : ℕ). state_with (first_processor esp0).regs (first_processor esp0).flags at (memory_in m.pages) left) eip
+      ∙ ap (λ (k : Memory). state_with (first_processor esp0).regs (first_processor esp0).flags image.entry k left) memory;
   steps = steps;
   ended = ended;
 }

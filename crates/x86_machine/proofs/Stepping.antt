@@ -1,24 +1,20 @@
 -- A step of an instruction, with the call that it may make.
-use Rattle.std.proofs.Common.{◌≡◌, ℕ, ◌+◌, List, [], ◌++◌, Option, Some, None, Result, Ok, Err, refl, sym, ap, ◌∙◌, subst}
+use Rattle.std.proofs.Common.{◌≡◌, ℕ, [], ◌++◌, Option, Some, None, Ok, Err, sym, ap, ◌∙◌}
 use Rattle.std.specs.declared.alloc.AllocError.{AllocError}
-use Rattle.outside.specs.declared.answer.Answer.{Answer}
 use Rattle.outside.specs.Environment.{Environment}
-use Rattle.traces.specs.Trace.{Label, End, Move, Go, Halt}
+use Rattle.traces.specs.Trace.{End, Go}
 use Rattle.mem_pages.specs.Ends.{end_of}
 use Rattle.mem_pages.specs.declared.end.RunEnd.{RunEnd}
-use Rattle.memory.specs.Memory.{Memory, wrapped}
+use Rattle.memory.specs.Memory.{Memory}
 use Rattle.x86_types.specs.declared.instr.Instr.{Instr}
-use Rattle.x86_types.specs.declared.instr.Instr.TheVariants.{Int80}
 use Rattle.x86_meaning.specs.declared.state.Cpu.{Cpu}
-use Rattle.x86_meaning.specs.Step.{State, step}
+use Rattle.x86_meaning.specs.Step.{step}
 use Rattle.x86_meaning.specs.StepLaws.{StepLaws}
-use Rattle.x86_step.specs.Steps.{state_of, HaltsWith, IsCall, Steps, Stays}
-use Rattle.x86_step.specs.declared.stepped.Stepped.{Stepped}
-use Rattle.x86_step.specs.declared.stepped.Stepped.TheVariants as stepped
+use Rattle.x86_step.specs.Steps.{state_of, HaltsWith, IsCall, Stays}
 use Rattle.sw_host.specs.Told.{Told, Tells}
 use Rattle.sw_host.specs.Chains.{tells_none, tells_map}
-use Rattle.system_calls.specs.Given.{environment, HasGiven}
-use Rattle.x86_machine.specs.Turning.{MoveGoes, MoveHalts, Wanted, called_from, CallsOn, StepsOn}
+use Rattle.system_calls.specs.Given.{environment}
+use Rattle.x86_machine.specs.Turning.{called_from, CallsOn, StepsOn}
 use Rattle.x86_machine.proofs.Giving.{gives_none}
 
 module _ (o p : Option Told) (i : Instr) (len : ℕ) (c d : Cpu) (m n : Memory) where

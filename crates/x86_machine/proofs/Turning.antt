@@ -1,31 +1,28 @@
 -- One turn of a machine.
-use Rattle.std.proofs.Common.{◌≡◌, ℕ, List, [], ◌∷◌, ◌++◌, Bool, true, false, Option, Some, None, Result, Ok, Err, refl, sym, ap, ◌∙◌, subst}
+use Rattle.std.proofs.Common.{◌≡◌, ℕ, ◌∷◌, ◌++◌, Option, Some, None, Ok, Err, refl, ap, ◌∙◌}
 use Rattle.std.specs.declared.alloc.AllocError.{AllocError}
-use Rattle.outside.specs.declared.answer.Answer.{Answer}
 use Rattle.outside.specs.Environment.{Environment}
-use Rattle.traces.specs.Trace.{Label, Turn, End, Move, Stand, Go, Halt, at_rest, seen}
-use Rattle.traces.specs.Trace as trace
+use Rattle.traces.specs.Trace.{Turn, at_rest}
 use Rattle.traces.specs.Machines.{marked}
 use Rattle.mem_pages.specs.Contents.{memory_in}
 use Rattle.mem_pages.specs.declared.end.RunEnd.{RunEnd}
 use Rattle.mem_pages.specs.declared.end.RunEnd.TheVariants as ends
 use Rattle.x86_types.specs.declared.instr.Instr.{Instr}
-use Rattle.x86_code.specs.Code.{Code}
 use Rattle.memory.specs.Memory.{Memory}
-use Rattle.x86_meaning.specs.Step.{State, step}
+use Rattle.x86_meaning.specs.Step.{step}
 use Rattle.x86_meaning.specs.Run.{machine}
 use Rattle.x86_meaning.specs.StepLaws.{StepLaws}
 use Rattle.x86_meaning.specs.declared.state.Cpu.{Cpu}
 use Rattle.x86_step.specs.Steps.{state_of}
 use Rattle.sw_host.specs.Told.{Told, Tells}
 use Rattle.sw_host.specs.Chains.{tells_none, tells_map}
-use Rattle.system_calls.specs.Given.{environment, HasGiven}
+use Rattle.system_calls.specs.Given.{environment}
 use Rattle.x86_machine.specs.declared.machine.Machine.{Machine}
 use Rattle.x86_machine.specs.declared.turn.Turned.TheVariants as turned
-use Rattle.x86_machine.specs.Kept.{KeptContents, IsFetched, code_by}
-use Rattle.x86_machine.specs.Standing.{code_in, state_in, steps_in, ended_in}
+use Rattle.x86_machine.specs.Kept.{code_by}
+use Rattle.x86_machine.specs.Standing.{code_in, state_in}
 use Rattle.x86_machine.specs.Running.{steps_after}
-use Rattle.x86_machine.specs.Turning.{MoveGoes, MoveHalts, Wanted, StepsOn, StandsAsBefore, MadeStep, MadeLast, StoodOutside, Waits, Turns, Rests}
+use Rattle.x86_machine.specs.Turning.{MoveGoes, MoveHalts, StepsOn, StandsAsBefore, StoodOutside, Waits, Turns}
 use Rattle.x86_machine.proofs.Giving.{gives_none, gives_turn}
 use Rattle.x86_machine.proofs.Moving.{never_stands}
 

@@ -1,5 +1,5 @@
 -- Instructions that are kept once they were decoded.
-use Rattle.std.specs.Prelude.{◌≡◌, ℕ, ◌<◌, List, [], cond, length, map, Option, Some, None, slice_get}
+use Rattle.std.specs.Prelude.{◌≡◌, ℕ, ◌<◌, List, [], cond, length, Option, Some, None, slice_get}
 use Rattle.std.specs.List.{All}
 use Rattle.image.specs.declared.image.Segment.{Segment}
 use Rattle.image.specs.Addresses.{has}

@@ -1,5 +1,5 @@
 -- How memory is filled.
-use Rattle.std.specs.Prelude.{ℕ, ◌+◌, Bool, cond, List, map, Option, Some}
+use Rattle.std.specs.Prelude.{ℕ, Bool, cond, List, map, Some}
 use Rattle.x86_values.specs.declared.byte.Byte.{Byte}
 use Rattle.x86_values.specs.declared.byte.Byte.TheVariants.{Known}
 use Rattle.image.specs.declared.image.Segment.{Segment}

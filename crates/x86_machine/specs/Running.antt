@@ -1,8 +1,8 @@
 -- What a machine does that runs over a host that tells.
-use Rattle.std.specs.Prelude.{◌≡◌, ℕ, ◌+◌, ◌≤◌, ◌^◌, ◌-◌, min, List, [], ◌++◌, Option, Some, None, Result, Ok, Err}
+use Rattle.std.specs.Prelude.{◌≡◌, ℕ, ◌+◌, ◌≤◌, min, List, ◌++◌, Option, Some, None, Result, Ok, Err}
 use Rattle.std.specs.declared.alloc.AllocError.{AllocError}
 use Rattle.outside.specs.declared.answer.Answer.{Answer}
-use Rattle.traces.specs.Trace.{Label, Seen, seen}
+use Rattle.traces.specs.Trace.{Label, seen}
 use Rattle.traces.specs.Steps.{Reaches}
 use Rattle.mem_pages.specs.Ends.{end_of}
 use Rattle.mem_pages.specs.declared.end.RunEnd.{RunEnd}

@@ -107,7 +107,12 @@ impl KeptCode {
         }
         let list = list_of(at);
         let next = self.firsts.as_slice().get(list).copied().unwrap_or(END);
-        self.kept.push(KeptInstr { at, instr, len, next })?;
+        self.kept.push(KeptInstr {
+            at,
+            instr,
+            len,
+            next,
+        })?;
         if let Some(first) = self.firsts.get_mut(list) {
             *first = index as u32;
         }

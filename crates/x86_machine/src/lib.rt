@@ -7,6 +7,8 @@ mod kept;
 mod machine;
 mod start;
 mod step;
+#[cfg(test)]
+mod tests;
 mod turn;
 
 pub use machine::Machine;

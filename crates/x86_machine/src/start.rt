@@ -75,7 +75,15 @@ fn add_segment(pages: &mut Pages, segment: &Segment) -> Result<(), AllocError>
     memory_laws();
     let end = segment.start + segment.size;
     let bytes = segment.bytes.as_slice();
-    add_filled(pages, segment.start, end, can_write(segment), Byte::Known(0), segment.start, bytes)
+    add_filled(
+        pages,
+        segment.start,
+        end,
+        can_write(segment),
+        Byte::Known(0),
+        segment.start,
+        bytes,
+    )
 }
 
 // Maps the segments of an image and fills them.

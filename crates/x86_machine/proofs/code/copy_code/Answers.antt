@@ -1,4 +1,4 @@
-use Rattle.std.proofs.Common.{◌≡◌, ℕ, ◌+◌, ◌<◌, ◌∙◌, ap, sym, length, take, arith, List, Some, None}
+use Rattle.std.proofs.Common.{◌≡◌, ◌∙◌, ap, length, arith, Some, None}
 use Rattle.image.specs.declared.image.Image.{Image}
 use Rattle.image.specs.Addresses.{code_byte_at, code_bytes}
 use Rattle.image.specs.Wanted.{image_with}

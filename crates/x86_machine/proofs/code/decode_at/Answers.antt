@@ -1,5 +1,4 @@
-use Rattle.std.proofs.Common.{◌≡◌, ℕ, ap, sym, ◌∙◌, refl, List, Option, Some, None, take}
-use Rattle.x86_types.specs.declared.instr.Instr.{Instr}
+use Rattle.std.proofs.Common.{ap, sym, ◌∙◌, refl}
 use Rattle.x86_grammar.specs.Front.{front}
 use Rattle.x86_code.specs.Code.{code_of}
 use Rattle.x86_machine.specs.Kept.{code_by}

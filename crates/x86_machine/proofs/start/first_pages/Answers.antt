@@ -1,5 +1,5 @@
-use Rattle.std.proofs.Common.{◌≡◌, sym, ap, ◌∙◌, ◌+◌, length, subst}
-use Rattle.memory.specs.Memory.{Memory, stack_start, with_stack}
+use Rattle.std.proofs.Common.{sym, ◌+◌, length, subst}
+use Rattle.memory.specs.Memory.{Memory, stack_start}
 use Rattle.mem_pages.specs.Regions.{HasRoom}
 use Rattle.x86_machine.proofs.Rooms.{stack_room}
 use Rattle.x86_machine.proofs.start.first_pages.Goals as goal

@@ -1,4 +1,4 @@
-use Rattle.std.proofs.Common.{◌≡◌, sym, ap, ◌∙◌, subst, ◌+◌, List}
+use Rattle.std.proofs.Common.{sym, ap, ◌∙◌, subst, ◌+◌, List}
 use Rattle.image.specs.declared.image.Segment.{Segment}
 use Rattle.image.specs.Wanted.{FitsWideRoom}
 use Rattle.memory.specs.Memory.{Memory}
@@ -11,7 +11,7 @@ pub add_segment-requires : goal.add_segment-requires
 add_segment-requires c =
     let fits : FitsWideRoom c.as_slice-segment-items.result.now c.image.inside.entry = subst (λ (ss : List Segment). FitsWideRoom ss c.image.inside.entry) (sym c.as_slice-segment-items.ensures) c.image.invariant in
     subst (λ (m : Memory). HasRoom c.segment-item.result.start (c.segment-item.result.start + c.segment-item.result.size) m) (sym c.loop-segment.invariant)
-        (room_for c.as_slice-segment-items.result.now c.image.inside.entry c.loop-segment.segment-index c.segment-item.result fits c.loop-segment-test.true c.segment-item.is)
+    (room_for c.as_slice-segment-items.result.now c.image.inside.entry c.loop-segment.segment-index c.segment-item.result fits c.loop-segment-test.true c.segment-item.is)
 
 pub loop-segment-init : goal.loop-segment-init
 loop-segment-init c = c.requires ∙ sym no_segments

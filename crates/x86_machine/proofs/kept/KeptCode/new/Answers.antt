@@ -1,4 +1,4 @@
-use Rattle.std.proofs.Common.{◌≡◌, map, ap, ◌∙◌}
+use Rattle.std.proofs.Common.{map, ap, ◌∙◌}
 use Rattle.x86_machine.specs.Kept.{code_segment, code_by}
 use Rattle.x86_machine.proofs.Segments.{code_same}
 use Rattle.x86_machine.proofs.kept.KeptCode.new.Goals as goal

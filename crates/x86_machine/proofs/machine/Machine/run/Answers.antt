@@ -1,4 +1,4 @@
-use Rattle.std.proofs.Common.{◌≡◌, ℕ, ◌<◌, ◌^◌, Ok, refl, sym, ap, ◌∙◌, arith}
+use Rattle.std.proofs.Common.{◌<◌, ◌^◌, Ok, ap, ◌∙◌, arith}
 use Rattle.x86_machine.specs.Standing.{steps_in}
 use Rattle.x86_machine.proofs.Goings.{LawsBelow}
 use Rattle.x86_machine.proofs.Running.{ended_before, starts, turned_on, turned_last, turned_outside, turned_wanting, rested}

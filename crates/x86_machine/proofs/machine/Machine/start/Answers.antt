@@ -1,4 +1,4 @@
-use Rattle.std.proofs.Common.{◌≡◌, refl, ap, ◌∙◌}
+use Rattle.std.proofs.Common.{refl, ap, ◌∙◌}
 use Rattle.x86_machine.proofs.Starting.{stands_at_start}
 use Rattle.x86_machine.proofs.machine.Machine.start.Goals as goal
 

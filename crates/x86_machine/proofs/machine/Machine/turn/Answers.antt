@@ -1,4 +1,4 @@
-use Rattle.std.proofs.Common.{◌≡◌, Some, None, Ok, refl}
+use Rattle.std.proofs.Common.{◌≡◌, Some, refl}
 use Rattle.mem_pages.specs.Contents.{memory_in}
 use Rattle.x86_machine.specs.Kept.{code_by}
 use Rattle.x86_machine.proofs.Fetching.{stands, none_stands}
