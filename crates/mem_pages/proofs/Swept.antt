@@ -102,9 +102,9 @@ off_page a n end l h = let m : n * 4096 + 4096 ≤ a = omega (arith, l, h) in gr
 
 page_quiet : (e f : Exposed) (d : Directory) (end n a : ℕ) → TakesOut end n e f → IsQuiet e d → lists f (a / 4096) ≡ false → (leb (n * 4096) a && ltb a (n * 4096 + 4096)) ≡ false → is_forgotten (contents d a) ≡ true
 page_quiet e f d end n a takes h l t = elim (cases_eq (a / 4096) n) as (λ _. is_forgotten (contents d a) ≡ true) [
-    | inl s ↦ absurd (false≢true (sym t ∙ in_page a n s))
-    | inr o ↦ h a (takes.others (a / 4096) o l)
-    ]
+  | inl s ↦ absurd (false≢true (sym t ∙ in_page a n s))
+  | inr o ↦ h a (takes.others (a / 4096) o l)
+]
 
 pub more_swept : (end n : ℕ) (d : Directory) (e f : Exposed) (d' d'' : Directory) → TakesOut end n e f → ((a : ℕ) → contents d'' a ≡ forget_between (n * 4096) (n * 4096 + 4096) (contents d') a) → KeepsPlaces d' d'' → IsSwept end d e d' → IsSwept end d f d''
 unfolding forget_between
@@ -113,7 +113,7 @@ more_swept end n d e f d' d'' takes places kept h = record {
   forgot = λ a. ap forgotten (places a) ∙ forgot_after (leb (n * 4096) a && ltb a (n * 4096 + 4096)) (contents d' a) ∙ h.forgot a;
   past = λ a l. places a ∙ cond-false _ _ _ (off_page a n end takes.below l) ∙ h.past a l;
   keeps = parts.keeps_then d d' d'' h.keeps kept;
-  }
+}
 
 below_end : (a end : ℕ) → a / 4096 < end → (leb 0 a && ltb a (4096 * end)) ≡ true
 below_end a end h = let l : a < 4096 * end = omega (arith, h) in grind (arith, nat_tests)
@@ -124,6 +124,6 @@ past_end a end h = let l : 4096 * end ≤ a = omega (arith, h) in grind (arith, 
 pub all_swept : (end : ℕ) (d : Directory) (f : Exposed) (d' : Directory) → ListsNoneBelow end f → IsSwept end d f d' → (a : ℕ) → contents d' a ≡ forget_between 0 (4096 * end) (contents d) a
 unfolding forget_between
 all_swept end d f d' none h a = elim (cases_lt (a / 4096) end) as (λ _. contents d' a ≡ cond (leb 0 a && ltb a (4096 * end)) (forgotten (contents d a)) (contents d a)) [
-    | inl l ↦ as_forgotten (contents d' a) (h.quiet a (none.none (a / 4096) l)) ∙ h.forgot a ∙ sym (cond-true _ _ _ (below_end a end l))
-    | inr l ↦ h.past a l ∙ sym (cond-false _ _ _ (past_end a end l))
-    ]
+  | inl l ↦ as_forgotten (contents d' a) (h.quiet a (none.none (a / 4096) l)) ∙ h.forgot a ∙ sym (cond-true _ _ _ (below_end a end l))
+  | inr l ↦ h.past a l ∙ sym (cond-false _ _ _ (past_end a end l))
+]
