@@ -7,3 +7,5 @@ pub mod Parts
 pub mod Swept
 pub mod Shown
 pub mod Runs
+pub mod WithinPage
+pub mod LoadedWord

@@ -156,7 +156,7 @@ off_stack_there d at g r there e f = record { off = λ a p s h. place_off_stack 
 pub off_stack_nowhere : (d : Directory) (at : ℕ) → None ≡ page_at d (at / 4096) → IsOffStack at (contents d)
 off_stack_nowhere d at there = record { off = λ a p s h. absurd (none-some p (sym (contents_on d a (at / 4096) None there s) ∙ h)) }
 
-in_page : (d : Directory) (at k count : ℕ) (o : Option Page) → at % 4096 + count ≤ 4096 → k < count → o ≡ page_at d (at / 4096) → contents d (at + k) ≡ place_on o (at % 4096 + k)
+pub in_page : (d : Directory) (at k count : ℕ) (o : Option Page) → at % 4096 + count ≤ 4096 → k < count → o ≡ page_at d (at / 4096) → contents d (at + k) ≡ place_on o (at % 4096 + k)
 in_page d at k count o l m there =
     let r : (at + k) % 4096 ≡ at % 4096 + k = omega arith in
     contents_on d (at + k) (at / 4096) o there (omega arith) ∙ ap (place_on o) r

@@ -133,7 +133,7 @@ unfolding forget_between
 lowered p q d mid l m h k = λ i a. (at_place q a ∙ ap (shown (ltb a q.lowest)) (k a ∙ ap (λ o. cond (leb mid a && ltb a p.lowest) (forgotten o) o) (h a) ∙ two_parts a mid p.lowest (contents p.directory a) m) ∙ still_forgotten (ltb a q.lowest) (ltb a p.lowest) (contents p.directory a) (λ t. lt-ltb a p.lowest (omega (arith, ltb-true a q.lowest t))) ∙ sym (at_place p a)) i
 
 -- ---- one byte
-off_stack_same : (o : Option Place) → ((p : Place) → o ≡ Some p → p.on_stack ≡ false) → forgotten o ≡ o
+pub off_stack_same : (o : Option Place) → ((p : Place) → o ≡ Some p → p.on_stack ≡ false) → forgotten o ≡ o
 off_stack_same None h = refl
 off_stack_same (Some p) h = ap (λ s. Some (record p { byte = cond s Unspecified p.byte })) (h p refl)
 

@@ -1,5 +1,5 @@
 -- What a page holds.
-use Rattle.std.specs.Prelude.{◌≡◌, ℕ, ◌+◌, ◌/◌, ◌<◌, ◌&&◌, Bool, true, false, cond, leb, ltb, length, slice_index_or, List, Option, Some, None}
+use Rattle.std.specs.Prelude.{◌≡◌, ℕ, ◌+◌, ◌/◌, ◌<◌, ◌&&◌, ◌||◌, Bool, true, false, not, cond, leb, ltb, length, slice_index_or, List, Option, Some, None}
 use Rattle.std.specs.Option.{option_map}
 use Rattle.x86_values.specs.declared.byte.Byte.{Byte}
 use Rattle.x86_values.specs.declared.byte.Byte.TheVariants.{Unspecified}
@@ -20,6 +20,10 @@ maps g at = leb g.from at && ltb at g.to
 -- the places of a page, by their offsets
 unfoldable pub place_in : Page → Memory
 place_in g at = cond (maps g at) (Some (record { byte = byte_in g at; can_write = g.can_write; on_stack = is_unspecified g.unset })) None
+
+-- whether some places are mapped and their bytes are read as they are kept; on the stack not where they are hidden
+abbrev pub is_plain : Page → Bool → ℕ → ℕ → Bool
+is_plain g hidden at count = leb g.from at && (leb (at + count) g.to && (leb 4096 (length g.bytes.items) && not (is_unspecified g.unset && (hidden || ltb at g.low))))
 
 -- whether a place is mapped and the bytes of its page are kept
 unfoldable pub kept_in : Page → ℕ → Bool

@@ -151,7 +151,21 @@ impl Pages {
 
     /// The word of the `size` bytes from an address on, 1, 2 or 4, the lowest first, with zeros above them; none where one of them
     /// isn't mapped. Addresses wrap at 2^32. It takes no memory.
+    #[inline]
     pub fn load(&self, at: u32, size: u8) -> Option<Word>
+        requires { IsSize size }
+        ensures { result ≡ loaded (memory_in self.now) at size }
+    {
+        if at % PAGE + size as u32 <= PAGE {
+            if let Some(word) = self.word(at, size) {
+                return Some(word);
+            }
+        }
+        self.load_each(at, size)
+    }
+
+    /// The same, byte by byte.
+    fn load_each(&self, at: u32, size: u8) -> Option<Word>
         requires { IsSize size }
         ensures { result ≡ loaded (memory_in self.now) at size }
     {

@@ -5,10 +5,12 @@ ghost use Rattle.x86_values.specs.declared.byte.Byte.{Byte};
 ghost use Rattle.x86_values.specs.declared.byte.Byte.TheVariants as byte;
 ghost use Rattle.memory.specs.Memory.{put};
 ghost use Rattle.mem_pages.specs.Regions.{unmapped, with_region, forget_between, is_unspecified};
-ghost use Rattle.mem_pages.specs.Page.{maps, place_in, kept_in, shown, seen, KeepsBytes, ShowsBytes, Judges, kind_of_access};
+ghost use Rattle.mem_pages.specs.Accesses.{loaded};
+ghost use Rattle.x86_values.specs.Sizes.{IsSize};
+ghost use Rattle.mem_pages.specs.Page.{maps, place_in, kept_in, is_plain, shown, seen, KeepsBytes, ShowsBytes, Judges, kind_of_access};
 
 use std::alloc::{AllocError, Global};
-use x86_values::Byte;
+use x86_values::{Byte, Word};
 
 /// The addresses of a page, of 4,096 bytes.
 pub const PAGE: u32 = 4096;
@@ -177,6 +179,59 @@ impl Page {
         ensures { result ≡ (is_unspecified self.now.unset && ltb at self.now.low) }
     {
         self.is_stack() && at < self.low
+    }
+
+    /// Whether some places are mapped and their bytes are read as they are kept; on the stack not where they are hidden.
+    #[inline]
+    #[tactic(auto, using(std::proofs::lemmas::Bool::Decides::nat_tests))]
+    fn is_plain(&self, at: u32, count: u32, hidden: bool) -> bool
+        requires { at + count ≤ 4096 }
+        ensures { result ≡ is_plain self.now hidden at count }
+    {
+        let end = at + count;
+        self.from <= at
+            && end <= self.to
+            && PAGE as usize <= self.bytes.len()
+            && !(self.is_stack() && (hidden || at < self.low))
+    }
+
+    /// The word of some bytes, the lowest first, where they are read as they are kept.
+    #[inline]
+    pub fn word(&self, at: u32, size: u8, hidden: bool) -> Option<Word>
+        requires size { IsSize size }
+        requires in_page { at + size ≤ 4096 }
+        ensures word { IfSome result (λ w. loaded (place_in self.now) at size ≡ Some w) }
+        ensures off { IfSome result (λ w. hidden ≡ true → is_unspecified self.now.unset ≡ false) }
+    {
+        if !self.is_plain(at, size as u32, hidden) {
+            return None;
+        }
+        let at = at as usize;
+        let zero = Byte::Known(0);
+        let b0 = self.bytes[at];
+        if size == 1 {
+            return Some(Word {
+                b0,
+                b1: zero,
+                b2: zero,
+                b3: zero,
+            });
+        }
+        let b1 = self.bytes[at + 1];
+        if size == 2 {
+            return Some(Word {
+                b0,
+                b1,
+                b2: zero,
+                b3: zero,
+            });
+        }
+        Some(Word {
+            b0,
+            b1,
+            b2: self.bytes[at + 2],
+            b3: self.bytes[at + 3],
+        })
     }
 
     /// The bytes of some places; none where they aren't kept, or where one of them may be hidden.

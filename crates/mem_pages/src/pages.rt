@@ -7,7 +7,7 @@ use crate::exposed::Exposed;
 use crate::page::PAGE;
 use crate::sweep::sweep;
 use std::alloc::{AllocError, Global};
-use x86_values::Byte;
+use x86_values::{Byte, Word};
 
 /// Memory in pages. Each byte of the stack below `lowest` is unspecified, and each in a page that `exposed` doesn't list.
 #[derive(Drop)]
@@ -21,13 +21,14 @@ pub struct Pages {
 impl Pages {
     ghost use Rattle.std.specs.Prelude.{◌≡◌, ℕ, ◌+◌, ◌/◌, ◌%◌, ◌<◌, ◌≤◌, Bool, true, false, Some, None, OnOk, OnErr, IfSome};
     ghost use Rattle.std.specs.Option.{option_map};
+    ghost use Rattle.x86_values.specs.Sizes.{IsSize};
     ghost use Rattle.memory.specs.Memory as spec;
     ghost use Rattle.memory.specs.Memory.{Place, Load, allows};
     ghost use Rattle.mem_pages.specs.Regions.{unmapped, with_region, HasRoom, forget_between};
     ghost use Rattle.mem_pages.specs.Page.{seen, ShowsBytes, Judges, kind_of_access};
     ghost use Rattle.mem_pages.specs.Directory.{contents};
     ghost use Rattle.mem_pages.specs.Contents.{memory_in, is_kept, IsReady, IsListed};
-    ghost use Rattle.mem_pages.specs.Accesses.{byte_read, KeepsPages, SameMemory, Writes};
+    ghost use Rattle.mem_pages.specs.Accesses.{byte_read, loaded, KeepsPages, SameMemory, Writes};
 
     /// No address is mapped.
     pub fn new(alloc: Global) -> Pages
@@ -76,6 +77,16 @@ impl Pages {
             Some(byte) => Ok(byte),
             None => Err(PageFault::NotMapped),
         }
+    }
+
+    /// The word of some bytes of a page, where they stand there as they are read.
+    #[inline]
+    pub(crate) fn word(&self, at: u32, size: u8) -> Option<Word>
+        requires size { IsSize size }
+        requires in_page { at % 4096 + size ≤ 4096 }
+        ensures { IfSome result (λ w. loaded (memory_in self.now) at size ≡ Some w) }
+    {
+        self.directory.word(at, size, at < self.lowest)
     }
 
     /// Whether the bytes of a page from an address on are what is kept of them, as far as `lowest` says.

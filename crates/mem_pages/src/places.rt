@@ -4,12 +4,14 @@ ghost use Rattle.std.specs.Option.{option_map, is_some};
 ghost use Rattle.memory.specs.Memory.{Load, put, allows};
 ghost use Rattle.mem_pages.specs.Regions.{with_region, forget_between};
 ghost use Rattle.mem_pages.specs.Page.{shown, seen, IsOffStack, ShowsBytes, Judges, kind_of_access};
+ghost use Rattle.x86_values.specs.Sizes.{IsSize};
+ghost use Rattle.mem_pages.specs.Accesses.{loaded};
 ghost use Rattle.mem_pages.specs.Directory.{page_at, contents, keeps, KeepsPlaces, HasGrown};
 
 use crate::directory::Directory;
 use crate::page::PAGE;
 use std::alloc::AllocError;
-use x86_values::Byte;
+use x86_values::{Byte, Word};
 
 /// The end of the part of a range that lies in the page of its first address.
 pub fn part_end(start: u32, end: u32) -> u32
@@ -33,6 +35,20 @@ impl Directory {
     {
         match self.page(at / PAGE) {
             Some(page) => page.byte(at % PAGE, hidden),
+            None => None,
+        }
+    }
+
+    /// The word of some bytes of a page, where they are read as they are kept; on the stack not where they are hidden.
+    #[inline]
+    pub fn word(&self, at: u32, size: u8, hidden: bool) -> Option<Word>
+        requires size { IsSize size }
+        requires in_page { at % 4096 + size ≤ 4096 }
+        ensures word { IfSome result (λ w. loaded (contents self.now) at size ≡ Some w) }
+        ensures off { IfSome result (λ w. hidden ≡ true → IsOffStack at (contents self.now)) }
+    {
+        match self.page(at / PAGE) {
+            Some(page) => page.word(at % PAGE, size, hidden),
             None => None,
         }
     }

@@ -1,6 +1,6 @@
 use Rattle.std.proofs.Common.{arith, ◌≡◌, ◌∙◌, refl}
 use Rattle.mem_pages.specs.Contents.{memory_in}
-use Rattle.mem_pages.proofs.pages.Pages.load.Goals as goal
+use Rattle.mem_pages.proofs.pages.Pages.load_each.Goals as goal
 use Rattle.mem_pages.proofs.Runs.{loads_one, loads_two, loads_four, byte_here, joins}
 
 pub returns-then-size-eq1 : goal.returns-then-size-eq1
