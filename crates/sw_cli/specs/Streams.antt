@@ -6,11 +6,11 @@ use Rattle.outside.specs.declared.answer.Answer.TheVariants.{Take, Fail}
 
 -- A read into this buffer: after Take the first k bytes of the buffer are those that the reader had first, and it has lost them;
 -- there are none only at the end or without room. A failure has number 5 (Linux: EIO), and then no byte is lost.
-abbrev pub Reads : Option (List ℕ) → Option (List ℕ) → Answer → List ℕ → Type 0
-Reads old new (Take k) buf = Consumes old new (take k buf) × (k ≡ 0 → 0 < length buf → IsAtEnd new)
-Reads old new (Fail e) buf = Keeps old new × (e ≡ 5)
+abbrev pub ReadsOnce : Option (List ℕ) → Option (List ℕ) → Answer → List ℕ → Type 0
+ReadsOnce old new (Take k) buf = Consumes old new (take k buf) × (k ≡ 0 → 0 < length buf → IsAtEnd new)
+ReadsOnce old new (Fail e) buf = Keeps old new × (e ≡ 5)
 
 -- A write of these bytes: after Take the writer has the first k of them after its own, and after a failure, of number 5, only its own.
-abbrev pub Writes : Option (List ℕ) → Option (List ℕ) → Answer → List ℕ → Type 0
-Writes old new (Take k) bytes = Appends old new (take k bytes)
-Writes old new (Fail e) bytes = Keeps old new × (e ≡ 5)
+abbrev pub WritesOnce : Option (List ℕ) → Option (List ℕ) → Answer → List ℕ → Type 0
+WritesOnce old new (Take k) bytes = Appends old new (take k bytes)
+WritesOnce old new (Fail e) bytes = Keeps old new × (e ≡ 5)

@@ -81,7 +81,7 @@ impl<R: Files + Eprint, I: Read, O: Write, E: Write> Host for RealHost<R, I, O, 
     ghost use Rattle.sw_host.specs.Told.{Tells, HasCause};
     ghost use Rattle.sw_host.specs.Calls.{Loads, Stores, Takes, Puts, Lines, IsAnswerFor};
     ghost use Rattle.sw_cli.specs.Counts.{CountsErr};
-    ghost use Rattle.sw_cli.specs.Streams.{Reads, Writes};
+    ghost use Rattle.sw_cli.specs.Streams.{ReadsOnce, WritesOnce};
 
     ghost told = { λ _. None };
 
@@ -110,7 +110,7 @@ impl<R: Files + Eprint, I: Read, O: Write, E: Write> Host for RealHost<R, I, O, 
         ensures answer { IfOk result (IsAnswerFor (length buf.old)) }
         ensures faults { self.old.faults ≤ self.new.faults }
         ensures uncounted { self.new.faults ≡ self.old.faults }
-        ensures reads { IfOk result (λ answer. Reads (I.remaining self.old.input) (I.remaining self.new.input) answer buf.new) }
+        ensures reads { IfOk result (λ answer. ReadsOnce (I.remaining self.old.input) (I.remaining self.new.input) answer buf.new) }
     {
         Ok(take_from(&mut self.input, buf))
     }
@@ -121,9 +121,9 @@ impl<R: Files + Eprint, I: Read, O: Write, E: Write> Host for RealHost<R, I, O, 
         ensures faults { self.old.faults ≤ self.new.faults }
         ensures uncounted { self.new.faults ≡ self.old.faults }
         ensures output { fd ≡ 1 → IfOk result (λ answer.
-            Writes (O.contents self.old.output) (O.contents self.new.output) answer bytes.now) }
+            WritesOnce (O.contents self.old.output) (O.contents self.new.output) answer bytes.now) }
         ensures errors { fd ≡ 2 → IfOk result (λ answer.
-            Writes (E.contents self.old.errors) (E.contents self.new.errors) answer bytes.now) }
+            WritesOnce (E.contents self.old.errors) (E.contents self.new.errors) answer bytes.now) }
         ensures elsewhere { fd ≢ 1 → fd ≢ 2 → result ≡ Ok (Answer.Fail 9) }
     {
         let answer = match fd {

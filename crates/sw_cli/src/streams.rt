@@ -1,7 +1,7 @@
 // One read or one write of the process's streams, and what it answers to the machine that asked for it.
 ghost use Rattle.std.specs.Prelude.{◌≡◌, length};
 ghost use Rattle.sw_host.specs.Calls.{IsAnswerFor};
-ghost use Rattle.sw_cli.specs.Streams.{Reads, Writes};
+ghost use Rattle.sw_cli.specs.Streams.{ReadsOnce, WritesOnce};
 
 use outside::Answer;
 use std::io::{ErrorKind, Read, Write};
@@ -15,7 +15,7 @@ const MOST: usize = 0xFFFF_FFFF;
 /// Reads once into the front of the buffer; at the end of the input 0 bytes. A read that a signal cut short is tried again.
 pub fn take_from<R: Read>(reader: &mut R, buf: &mut [u8]) -> Answer
     ensures answer { IsAnswerFor (length buf.old) result }
-    ensures reads { Reads (R.remaining reader.old) (R.remaining reader.new) result buf.new }
+    ensures reads { ReadsOnce (R.remaining reader.old) (R.remaining reader.new) result buf.new }
 {
     let room = buf.len().min(MOST);
     for _ in 0..u64::MAX {
@@ -31,7 +31,7 @@ pub fn take_from<R: Read>(reader: &mut R, buf: &mut [u8]) -> Answer
 /// Writes the front of the bytes once. A write that a signal cut short is tried again.
 pub fn put_to<W: Write>(writer: &mut W, bytes: &[u8]) -> Answer
     ensures answer { IsAnswerFor (length bytes.now) result }
-    ensures writes { Writes (W.contents writer.old) (W.contents writer.new) result bytes.now }
+    ensures writes { WritesOnce (W.contents writer.old) (W.contents writer.new) result bytes.now }
 {
     let room = bytes.len().min(MOST);
     for _ in 0..u64::MAX {

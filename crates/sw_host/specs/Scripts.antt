@@ -10,14 +10,14 @@ abbrev pub most_taken : ℕ
 most_taken = 2 ^ 32 - 1
 
 -- An answer where so many bytes are there.
-abbrev pub cut : ℕ → Answer → Answer
-cut there (Take k) = Take (min k there)
-cut there (Fail e) = Fail e
+abbrev pub limited : ℕ → Answer → Answer
+limited there (Take k) = Take (min k there)
+limited there (Fail e) = Fail e
 
 -- The next answer of a script; where none is left, all that is there.
 abbrev pub answer_by : List Answer → ℕ → Answer
 answer_by [] there = Take there
-answer_by (x ∷ xs) there = cut there x
+answer_by (x ∷ xs) there = limited there x
 
 -- The answer to a call: one that is to fail answers 5 (Linux: EIO), and any other the next answer of the script.
 abbrev pub scripted_answer : Bool → List Answer → ℕ → Answer

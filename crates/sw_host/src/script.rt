@@ -2,7 +2,7 @@
 ghost use Rattle.std.specs.Prelude.{◌≡◌, [], ◌∷◌, ◌++◌, OnOk, OnErr};
 ghost use Rattle.outside.specs.Environment.{IsAnswer, answers_after};
 ghost use Rattle.sw_host.specs.Calls.{IsAnswerFor};
-ghost use Rattle.sw_host.specs.Scripts.{cut, answer_by};
+ghost use Rattle.sw_host.specs.Scripts.{limited, answer_by};
 
 use outside::Answer;
 use std::alloc::{AllocError, Global};
@@ -51,7 +51,7 @@ impl Script {
         ensures fits { IsAnswerFor there result }
     {
         match self.answers.front() {
-            Some(answer) => cut(*answer, there),
+            Some(answer) => limited(*answer, there),
             None => Answer::Take(there),
         }
     }
@@ -64,8 +64,8 @@ impl Script {
     }
 }
 
-fn cut(answer: Answer, there: u32) -> Answer
-    ensures { result ≡ cut there answer }
+fn limited(answer: Answer, there: u32) -> Answer
+    ensures { result ≡ limited there answer }
 {
     match answer {
         Answer::Take(count) => Answer::Take(count.min(there)),

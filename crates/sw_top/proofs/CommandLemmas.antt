@@ -5,7 +5,7 @@ use Rattle.sw_top.specs.declared.command.Names.{Names}
 use Rattle.sw_top.specs.declared.command.Running.{Running}
 use Rattle.sw_top.specs.declared.command.Command.TheVariants.{Rewrite, Run}
 use Rattle.sw_top.specs.Stacks.{stack_size, greatest_stack}
-use Rattle.sw_top.specs.Commands.{rewrite_of, run_of, run_with, run_steps_of, steps_of, plain_steps, most_steps, command_of}
+use Rattle.sw_top.specs.Commands.{rewrite_of, running_of, running_with, run_steps_of, steps_of, plain_steps, most_steps, command_of}
 use Rattle.sw_top.specs.Laws.{HasRunForm, plainly, with_steps, IsRun, RunIsSpelled}
 use Rattle.sw_top.proofs.NumberLemmas.{leb_is, is_leb, steps_of_is, steps_of_written}
 
@@ -24,7 +24,7 @@ chosen false r s e = cc
 taken : (b : Bool) (r s : Running) → b ≡ true → r ≡ s → cond b (Some (Run r)) None ≡ Some (Run s)
 taken b r s p e = rw (p, e) refl
 
-run_of_is : (steps : ℕ) (words : List (List ℕ)) (running : Running) → run_of steps words ≡ Some (Run running) → IsRunOf steps words running
+run_of_is : (steps : ℕ) (words : List (List ℕ)) (running : Running) → running_of steps words ≡ Some (Run running) → IsRunOf steps words running
 run_of_is steps [] running e = cc
 run_of_is steps (from ∷ args) running e =
     let r : Running = record { from = from; words = from ∷ args; steps = steps } in
@@ -37,13 +37,13 @@ run_of_is steps (from ∷ args) running e =
       fits = subst (λ (x : Running). stack_size x.words ≤ greatest_stack) is.1 (leb_is (stack_size (from ∷ args)) greatest_stack is.0);
     }
 
-run_of_spells : (steps : ℕ) (words : List (List ℕ)) (running : Running) → IsRunOf steps words running → run_of steps words ≡ Some (Run running)
+run_of_spells : (steps : ℕ) (words : List (List ℕ)) (running : Running) → IsRunOf steps words running → running_of steps words ≡ Some (Run running)
 run_of_spells steps words running h =
     let front = running.from ∷ h.args in
     let fits = subst (λ w. stack_size w ≤ greatest_stack) h.from_is h.fits in
     let r : Running = record { from = running.from; words = front; steps = steps } in
     let same : r ≡ running = ap (λ n. record { from = running.from; words = front; steps = n }) (sym h.steps_are) ∙ ap (λ w. record { from = running.from; words = w; steps = running.steps }) (sym h.from_is) in
-    subst (λ w. run_of steps w ≡ Some (Run running)) (sym h.from_is ∙ h.words_are) (taken (leb (stack_size front) greatest_stack) r running (is_leb (stack_size front) greatest_stack fits) same)
+    subst (λ w. running_of steps w ≡ Some (Run running)) (sym h.from_is ∙ h.words_are) (taken (leb (stack_size front) greatest_stack) r running (is_leb (stack_size front) greatest_stack fits) same)
 
 -- a rewriting is no run
 no_run : (b : Bool) (names : Names) (running : Running) → cond b None (Some (Rewrite names)) ≡ Some (Run running) → ⊥
@@ -64,7 +64,7 @@ record HasSteps (words : List (List ℕ)) (running : Running) : Type 0 where
   rest : List (List ℕ)
   is_run : IsRunOf running.steps rest running
 
-steps_are_said : (number : List ℕ) (o : Option ℕ) (words : List (List ℕ)) (running : Running) → o ≡ steps_of number → run_with o words ≡ Some (Run running) → HasSteps (number ∷ words) running
+steps_are_said : (number : List ℕ) (o : Option ℕ) (words : List (List ℕ)) (running : Running) → o ≡ steps_of number → running_with o words ≡ Some (Run running) → HasSteps (number ∷ words) running
 steps_are_said number None words running same e = cc
 steps_are_said number (Some n) words running same e =
     let is = run_of_is n words running e in
@@ -81,7 +81,7 @@ run_steps_of_is [] running e = cc
 run_steps_of_is (number ∷ words) running e = steps_are_said number (steps_of number) words running refl e
 
 -- by the first word
-by_first : (first : List ℕ) (rest : List (List ℕ)) (running : Running) (p q r : Bool) → q ≡ bytes_eq first (codes "run") → r ≡ bytes_eq first (codes "run-steps") → cond p (rewrite_of rest) (cond q (run_of plain_steps rest) (cond r (run_steps_of rest) None)) ≡ Some (Run running) → IsRun (first ∷ rest) running
+by_first : (first : List ℕ) (rest : List (List ℕ)) (running : Running) (p q r : Bool) → q ≡ bytes_eq first (codes "run") → r ≡ bytes_eq first (codes "run-steps") → cond p (rewrite_of rest) (cond q (running_of plain_steps rest) (cond r (run_steps_of rest) None)) ≡ Some (Run running) → IsRun (first ∷ rest) running
 by_first first rest running true q r f g e = absurd (rewrite_is_no_run rest running e)
 by_first first rest running false true r f g e =
     let is = run_of_is plain_steps rest running e in
@@ -103,7 +103,7 @@ spelled words running (plainly e n) args f h =
     ap command_of e ∙ run_of_spells plain_steps running.words running (record { words_are = refl; steps_are = n; args = args; from_is = f; fits = h })
 spelled words running (with_steps e n) args f h =
     ap command_of e
-    ∙ ap (λ o. run_with o running.words) (steps_of_written (decimal running.steps) running.steps refl n)
+    ∙ ap (λ o. running_with o running.words) (steps_of_written (decimal running.steps) running.steps refl n)
     ∙ run_of_spells running.steps running.words running (record { words_are = refl; steps_are = refl; args = args; from_is = f; fits = h })
 
 pub run_is_spelled : RunIsSpelled

@@ -6,7 +6,7 @@ use Rattle.std.specs.declared.alloc.Global.{Global}
 use Rattle.sw_host.specs.declared.host.HostFault.TheVariants.{Failed}
 use Rattle.sw_host.specs.Told.{Told}
 use Rattle.sw_host.specs.Calls.{called, fails, loaded, Loads}
-use Rattle.sw_top.specs.Loading.{front_of, IsWhole, IsLonger, HasFile}
+use Rattle.sw_top.specs.Loading.{front_of, IsLoadedWhole, IsLonger, HasFile}
 
 -- a front that is shorter than it may be is the whole
 whole : (n : ℕ) (file full : List ℕ) → take n full ≡ file → length file < n → full ≡ file
@@ -69,20 +69,20 @@ module _ (most : ℕ) (name : List ℕ) (a : Told) where
       let found = loaded_longer a name (most + 1) most v.items given refl h in
       record { front = v.items; gave = given; full = found.0; file = found.1; whole = found.2; over = found.3 }
 
-  pub whole_load : (v : Vec ℕ Global) (b : Told) → length v.items ≤ most → Loads name (most + 1) (Ok v) a b → IsWhole most name a v.items
+  pub whole_load : (v : Vec ℕ Global) (b : Told) → length v.items ≤ most → Loads name (most + 1) (Ok v) a b → IsLoadedWhole most name a v.items
   whole_load v b h p =
       let given = gave v b p in
       record { gave = given; fits = h; whole = loaded_whole a name (most + 1) v.items given (omega (arith, h)) }
 
   -- what was loaded is there
-  pub whole_has : (file : List ℕ) → IsWhole most name a file → HasFile name a file
+  pub whole_has : (file : List ℕ) → IsLoadedWhole most name a file → HasFile name a file
   whole_has file w = record { loads = loads most name a file w.gave; whole = w.whole }
 
   pub longer_has : (l : IsLonger most name a) → HasFile name a l.file
   longer_has l = record { loads = loads most name a l.front l.gave; whole = l.whole }
 
   -- what is there is loaded
-  pub has_whole : (file : List ℕ) → HasFile name a file → length file ≤ most → IsWhole most name a file
+  pub has_whole : (file : List ℕ) → HasFile name a file → length file ≤ most → IsLoadedWhole most name a file
   has_whole file g h =
       record { gave = front-of_file most name a file g ∙ ap Some (take_all (most + 1) file (omega (arith, h))); fits = h; whole = g.whole }
 
@@ -92,16 +92,16 @@ module _ (most : ℕ) (name : List ℕ) (a : Told) where
       record { front = take (most + 1) file; gave = front-of_file most name a file g; full = omega (arith, size, h); file = file; whole = g.whole; over = h }
 
   -- a load gives one thing
-  pub one_whole : (file other : List ℕ) → IsWhole most name a file → IsWhole most name a other → other ≡ file
+  pub one_whole : (file other : List ℕ) → IsLoadedWhole most name a file → IsLoadedWhole most name a other → other ≡ file
   one_whole file other p q = let one = p.gave in let two = q.gave in cc
 
-  pub not_none : (file : List ℕ) → IsWhole most name a file → front_of most name a ≡ None → ⊥
+  pub not_none : (file : List ℕ) → IsLoadedWhole most name a file → front_of most name a ≡ None → ⊥
   not_none file p e = let one = p.gave in cc
 
   pub longer_not_none : IsLonger most name a → front_of most name a ≡ None → ⊥
   longer_not_none p e = let one = p.gave in cc
 
-  pub not_longer : (file : List ℕ) → IsWhole most name a file → IsLonger most name a → ⊥
+  pub not_longer : (file : List ℕ) → IsLoadedWhole most name a file → IsLonger most name a → ⊥
   not_longer file p q =
       let one = p.gave in
       let two = q.gave in

@@ -13,7 +13,7 @@ use Rattle.sw_top.specs.declared.command.Running.{Running}
 use Rattle.sw_top.specs.declared.end.End.{End}
 use Rattle.sw_top.specs.declared.end.End.TheVariants.{Done, Ran, Usage, TooLong, Refused, Host, Memory}
 use Rattle.sw_top.specs.Ends.{line_of, run_line}
-use Rattle.sw_top.specs.Loading.{front_of, IsWhole, IsLonger, HasFile}
+use Rattle.sw_top.specs.Loading.{front_of, IsLoadedWhole, IsLonger, HasFile}
 use Rattle.sw_top.specs.Running.{greatest_program, PerformsRun, RunsProgram, RunsOutOfMemory, before_run, in_run}
 use Rattle.sw_top.specs.Serves.{SaysLine}
 use Rattle.sw_top.specs.RewriteOutcome.{IsOrMemory, KeepsFiles}
@@ -24,9 +24,9 @@ use Rattle.sw_top.proofs.LoadLemmas.{whole_has, longer_has, has_whole, has_longe
 
 -- what a run found, by its answer
 data Found (running : Running) (a : Told) (end : End) : Type 0 where
-  has_ran : (e : RunEnd) → end ≡ Ran e → (file : List ℕ) (image : Image) → IsWhole greatest_program running.from a file → image_of file Any ≡ Ok image → Found running a end
+  has_ran : (e : RunEnd) → end ≡ Ran e → (file : List ℕ) (image : Image) → IsLoadedWhole greatest_program running.from a file → image_of file Any ≡ Ok image → Found running a end
   is_long : end ≡ TooLong → IsLonger greatest_program running.from a → Found running a end
-  is_refused : (file : List ℕ) (r : Refusal) → end ≡ Refused r → IsWhole greatest_program running.from a file → image_of file Any ≡ Err r → Found running a end
+  is_refused : (file : List ℕ) (r : Refusal) → end ≡ Refused r → IsLoadedWhole greatest_program running.from a file → image_of file Any ≡ Err r → Found running a end
   is_unloaded : end ≡ Host → front_of greatest_program running.from a ≡ None → Found running a end
   is_wanting : end ≡ Memory → Found running a end
 
@@ -55,8 +55,8 @@ module _ (running : Running) (a : Told) (end : End) where
   too_long l (is_unloaded is e) = absurd (longer_not_none greatest_program running.from a l e)
   too_long l (is_wanting is) = inr is
 
-  module _ (file : List ℕ) (p : IsWhole greatest_program running.from a file) where
-    judged : (other : List ℕ) (result : Result Image Refusal) → IsWhole greatest_program running.from a other → image_of other Any ≡ result → image_of file Any ≡ result
+  module _ (file : List ℕ) (p : IsLoadedWhole greatest_program running.from a file) where
+    judged : (other : List ℕ) (result : Result Image Refusal) → IsLoadedWhole greatest_program running.from a other → image_of other Any ≡ result → image_of file Any ≡ result
     judged other result w e = ap (λ f. image_of f Any) (sym (one_whole greatest_program running.from a file other p w)) ∙ e
 
     refused : (r : Refusal) → image_of file Any ≡ Err r → Found running a end → IsOrMemory (Refused r) end

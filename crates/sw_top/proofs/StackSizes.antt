@@ -3,7 +3,7 @@ use Rattle.std.proofs.Common.{◌≡◌, ℕ, ◌+◌, ◌-◌, ◌*◌, ◌%◌
 use Rattle.std.proofs.lemmas.List.{length-replicate}
 use Rattle.std.specs.List.{flat_map}
 use Rattle.byte_lists.specs.LittleEndian.{word_bytes, zeros}
-use Rattle.sw_top.specs.Stacks.{strings, pointers, vectors, vectors_size, used_size, filled, stack_size, first_esp, start_stack}
+use Rattle.sw_top.specs.Stacks.{strings, pointers, vectors, vectors_size, used_size, filled_size, stack_size, first_esp, start_stack}
 use Rattle.sw_top.specs.Laws.{StackIsStart}
 
 -- four bytes a number
@@ -23,7 +23,7 @@ length-vectors at words =
     omega arith)
 
 -- the fill takes no more than it has to
-filled_bounds : (n : ℕ) → (n ≤ filled n) × (128 ≤ filled n) × (filled n % 16 ≡ 0)
+filled_bounds : (n : ℕ) → (n ≤ filled_size n) × (128 ≤ filled_size n) × (filled_size n % 16 ≡ 0)
 filled_bounds n = (omega arith, omega arith, omega arith)
 
 pub length-start_stack : (words : List (List ℕ)) → length (start_stack words) ≡ stack_size words

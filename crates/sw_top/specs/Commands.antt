@@ -11,9 +11,9 @@ rewrite_of (from ∷ to ∷ map ∷ []) = if bytes_eq to map then None else Some
 rewrite_of _ = None
 
 -- After `run` come IN and ARGS, any number of them, with a stack of at most 128 KiB.
-abbrev pub run_of : ℕ → List (List ℕ) → Option Command
-run_of steps [] = None
-run_of steps (from ∷ args) = if leb (stack_size (from ∷ args)) greatest_stack then Some (Run (record { from = from; words = from ∷ args; steps = steps })) else None
+abbrev pub running_of : ℕ → List (List ℕ) → Option Command
+running_of steps [] = None
+running_of steps (from ∷ args) = if leb (stack_size (from ∷ args)) greatest_stack then Some (Run (record { from = from; words = from ∷ args; steps = steps })) else None
 
 -- The steps of `run`.
 abbrev pub plain_steps : ℕ
@@ -28,19 +28,19 @@ abbrev pub steps_of : List ℕ → Option ℕ
 steps_of text = let number = digits_value 10 text in if bytes_eq text (decimal number) && leb number most_steps then Some number else None
 
 -- After `run-steps` come the number of steps, IN and ARGS.
-abbrev pub run_with : Option ℕ → List (List ℕ) → Option Command
-run_with None words = None
-run_with (Some steps) words = run_of steps words
+abbrev pub running_with : Option ℕ → List (List ℕ) → Option Command
+running_with None words = None
+running_with (Some steps) words = running_of steps words
 
 abbrev pub run_steps_of : List (List ℕ) → Option Command
 run_steps_of [] = None
-run_steps_of (number ∷ words) = run_with (steps_of number) words
+run_steps_of (number ∷ words) = running_with (steps_of number) words
 
 -- The first word says which command it is, and the words after it what it is about.
 abbrev pub command_of : List (List ℕ) → Option Command
 command_of [] = None
 command_of (first ∷ rest) =
     if bytes_eq first (codes "rewrite") then rewrite_of rest
-    else if bytes_eq first (codes "run") then run_of plain_steps rest
+    else if bytes_eq first (codes "run") then running_of plain_steps rest
     else if bytes_eq first (codes "run-steps") then run_steps_of rest
     else None

@@ -9,7 +9,7 @@ abbrev pub front_of : ℕ → List ℕ → Told → Option (List ℕ)
 front_of most name a = loaded (called a) name (most + 1)
 
 -- It gave at most as many bytes as are wanted, which are the whole file.
-pub record IsWhole (most : ℕ) (name : List ℕ) (a : Told) (file : List ℕ) : Type 0 where
+pub record IsLoadedWhole (most : ℕ) (name : List ℕ) (a : Told) (file : List ℕ) : Type 0 where
   pub gave : front_of most name a ≡ Some file
   pub fits : length file ≤ most
   pub whole : get a.files name ≡ Some file

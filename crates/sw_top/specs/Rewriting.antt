@@ -4,7 +4,7 @@ use Rattle.elf_image.specs.declared.refusal.Refusal.{Refusal}
 use Rattle.rewrite_core.specs.Rewrites.{IsWritten, IsRefused}
 use Rattle.sw_host.specs.Told.{Told}
 use Rattle.sw_host.specs.Calls.{called, fails, with_file, Spoils}
-use Rattle.sw_top.specs.Loading.{front_of, IsWhole, IsLonger}
+use Rattle.sw_top.specs.Loading.{front_of, IsLoadedWhole, IsLonger}
 use Rattle.sw_top.specs.declared.command.Names.{Names}
 use Rattle.sw_top.specs.declared.end.End.{End}
 use Rattle.sw_top.specs.declared.end.End.TheVariants.{Done, Ran, Usage, TooLong, Refused, Host, Memory}
@@ -35,7 +35,7 @@ stored_both names out a = with_file (called (stored_out names out a)) names.map 
 
 -- The load of IN gave at most 16 MiB, which is the whole file.
 abbrev pub IsInput : Names → Told → List ℕ → Type 0
-IsInput names a file = IsWhole greatest_size names.from a file
+IsInput names a file = IsLoadedWhole greatest_size names.from a file
 
 -- The load of IN gave all bytes that it asked for, since the file has more than 16 MiB.
 abbrev pub IsOverlong : Names → Told → Type 0

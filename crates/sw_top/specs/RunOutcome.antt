@@ -7,7 +7,7 @@ use Rattle.image.specs.declared.room.Room.TheVariants.{Any}
 use Rattle.elf_image.specs.declared.refusal.Refusal.{Refusal}
 use Rattle.elf_image.specs.Image.{image_of}
 use Rattle.mem_pages.specs.declared.end.RunEnd.{RunEnd}
-use Rattle.mem_pages.specs.Ends.{end_of}
+use Rattle.mem_pages.specs.Ends.{end_of_run}
 use Rattle.sw_host.specs.Told.{Told, last_count}
 use Rattle.system_calls.specs.Given.{count_after, writes_answered}
 use Rattle.sw_top.specs.declared.command.Running.{Running}
@@ -68,7 +68,7 @@ pub record HasRun (running : Running) (end : RunEnd) (a b : Told) : Type 0 where
   pub answers : List Answer
   pub given : b.given ≡ a.given ++ answers
   pub labels : List Label
-  pub run : run_over image running.words a answers running.steps ≡ seen labels (end_of end)
+  pub run : run_over image running.words a answers running.steps ≡ seen labels (end_of_run end)
   pub taken : taken labels ≡ length answers
   pub left : b.left ≡ input_left a.left labels
   pub moved : b.moved ≡ a.moved ++ writes_answered labels

@@ -7,7 +7,7 @@ use Rattle.image.specs.declared.room.Room.TheVariants.{Any}
 use Rattle.elf_image.specs.declared.refusal.Refusal.{Refusal}
 use Rattle.elf_image.specs.Image.{image_of}
 use Rattle.mem_pages.specs.declared.end.RunEnd.{RunEnd}
-use Rattle.mem_pages.specs.Ends.{end_of}
+use Rattle.mem_pages.specs.Ends.{end_of_run}
 use Rattle.x86_meaning.specs.Run as meaning
 use Rattle.sw_host.specs.Told.{Told}
 use Rattle.sw_host.specs.Calls.{called}
@@ -16,7 +16,7 @@ use Rattle.sw_top.specs.declared.command.Running.{Running}
 use Rattle.sw_top.specs.declared.end.End.{End}
 use Rattle.sw_top.specs.declared.end.End.TheVariants.{Done, Ran, Usage, TooLong, Refused, Host, Memory}
 use Rattle.sw_top.specs.Stacks.{first_esp, start_stack}
-use Rattle.sw_top.specs.Loading.{front_of, IsWhole, IsLonger}
+use Rattle.sw_top.specs.Loading.{front_of, IsLoadedWhole, IsLonger}
 
 -- The most bytes of a file that is run: 512 MiB. (own)
 abbrev pub greatest_program : ℕ
@@ -29,7 +29,7 @@ run_over image words a answers = meaning.run_of image (first_esp words) (start_s
 -- IN was loaded, and has an image in the wide room.
 pub record IsProgram (running : Running) (a : Told) (image : Image) : Type 0 where
   pub file : List ℕ
-  pub is_whole : IsWhole greatest_program running.from a file
+  pub is_whole : IsLoadedWhole greatest_program running.from a file
   pub read : image_of file Any ≡ Ok image
 
 -- Ran: of at most so many steps the run of the image, over the answers that the host gave, has these labels and this end, or none
@@ -39,7 +39,7 @@ pub record RunsProgram (running : Running) (end : RunEnd) (a b : Told) : Type 0 
   pub is_program : IsProgram running a image
   pub answers : List Answer
   pub labels : List Label
-  pub run : run_over image running.words a answers running.steps ≡ seen labels (end_of end)
+  pub run : run_over image running.words a answers running.steps ≡ seen labels (end_of_run end)
   pub host : HasGiven answers 0 labels (called a) b
 
 -- TooLong: IN has more than 512 MiB, and the load was the only call.
@@ -50,7 +50,7 @@ pub record PassesGreatest (running : Running) (a b : Told) : Type 0 where
 -- Refused: IN was loaded as a file that is refused, and the load was the only call.
 pub record RefusesProgram (running : Running) (r : Refusal) (a b : Told) : Type 0 where
   pub file : List ℕ
-  pub is_whole : IsWhole greatest_program running.from a file
+  pub is_whole : IsLoadedWhole greatest_program running.from a file
   pub refused : image_of file Any ≡ Err r
   pub after : b ≡ called a
 

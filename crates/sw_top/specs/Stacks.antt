@@ -27,12 +27,12 @@ abbrev pub used_size : List (List ℕ) → ℕ
 used_size words = vectors_size words + length (strings words)
 
 -- The least multiple of 16 that is at least n and at least 128.
-abbrev pub filled : ℕ → ℕ
-filled n = max 128 ((n + 15) / 16 * 16)
+abbrev pub filled_size : ℕ → ℕ
+filled_size n = max 128 ((n + 15) / 16 * 16)
 
 -- How many bytes the stack has.
 abbrev pub stack_size : List (List ℕ) → ℕ
-stack_size words = filled (used_size words)
+stack_size words = filled_size (used_size words)
 
 -- The most that it may have: 128 KiB.
 abbrev pub greatest_stack : ℕ

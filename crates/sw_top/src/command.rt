@@ -2,7 +2,7 @@
 ghost use Rattle.std.specs.Prelude.{◌≡◌, ◌≤◌};
 ghost use Rattle.sw_top.specs.Texts.{texts};
 ghost use Rattle.sw_top.specs.Stacks.{stack_size, greatest_stack};
-ghost use Rattle.sw_top.specs.Commands.{rewrite_of, run_of, steps_of, run_steps_of, command_of};
+ghost use Rattle.sw_top.specs.Commands.{rewrite_of, running_of, steps_of, run_steps_of, command_of};
 
 use crate::stack::has_stack;
 use itoa::Buffer;
@@ -110,7 +110,7 @@ pub fn command_of(words: &[String]) -> Option<Command<'_>>
         return rewrite_of(rest);
     }
     if first.as_str() == "run" {
-        return run_of(PLAIN_STEPS, rest);
+        return running_of(PLAIN_STEPS, rest);
     }
     if first.as_str() == "run-steps" {
         return run_steps_of(rest);
@@ -137,8 +137,8 @@ fn rewrite_of(words: &[String]) -> Option<Command<'_>>
 }
 
 // The run of the file that the first of the words names, where their stack is small enough.
-fn run_of(steps: u64, words: &[String]) -> Option<Command<'_>>
-    ensures { result ≡ run_of steps (texts words.now) }
+fn running_of(steps: u64, words: &[String]) -> Option<Command<'_>>
+    ensures { result ≡ running_of steps (texts words.now) }
 {
     let (from, _) = words.split_first()?;
     if !has_stack(words) {
@@ -156,7 +156,7 @@ fn run_steps_of(words: &[String]) -> Option<Command<'_>>
     ensures { result ≡ run_steps_of (texts words.now) }
 {
     let (number, words) = words.split_first()?;
-    run_of(steps_of(number.as_str())?, words)
+    running_of(steps_of(number.as_str())?, words)
 }
 
 // The number of steps that the text says. It is read as any number is, and has to be how that number is written.

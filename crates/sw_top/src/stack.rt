@@ -3,7 +3,7 @@ ghost use Rattle.std.specs.Prelude.{◌≡◌, ◌+◌, ◌-◌, ◌^◌, ◌<�
 ghost use Rattle.std.specs.List.{flat_map};
 ghost use Rattle.byte_lists.specs.LittleEndian.{word_bytes};
 ghost use Rattle.sw_top.specs.Texts.{texts};
-ghost use Rattle.sw_top.specs.Stacks.{strings, pointers, used_size, filled, stack_size, greatest_stack, first_esp, start_stack};
+ghost use Rattle.sw_top.specs.Stacks.{strings, pointers, used_size, filled_size, stack_size, greatest_stack, first_esp, start_stack};
 
 use byte_lists::{push_word, push_words, push_zeros};
 use std::alloc::{AllocError, Global};
@@ -41,9 +41,9 @@ pub fn has_stack(words: &[String]) -> bool
 }
 
 // The least multiple of 16 that is at least this number and at least 128.
-fn filled(size: usize) -> usize
+fn filled_size(size: usize) -> usize
     requires { size ≤ greatest_stack }
-    ensures { result ≡ filled size }
+    ensures { result ≡ filled_size size }
 {
     ((size + 15) / 16 * 16).max(128)
 }
@@ -53,7 +53,7 @@ pub fn first_esp(words: &[String]) -> u32
     requires { stack_size (texts words.now) ≤ greatest_stack }
     ensures { result ≡ first_esp (texts words.now) }
 {
-    END - filled(used_size(words)) as u32
+    END - filled_size(used_size(words)) as u32
 }
 
 // Puts a pointer to each string behind the list, where the first stands at that address.
@@ -93,6 +93,6 @@ pub fn start_stack(alloc: Global, words: &[String]) -> Result<Vec<u8>, AllocErro
     push_pointers(&mut stack, words, first_esp(words) + 4 * (count + 5))?;
     push_words(&mut stack, &[0, 0, 0, 0])?;
     push_strings(&mut stack, words)?;
-    push_zeros(&mut stack, filled(used) - used)?;
+    push_zeros(&mut stack, filled_size(used) - used)?;
     Ok(stack)
 }

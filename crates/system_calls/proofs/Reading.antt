@@ -15,17 +15,17 @@ use Rattle.sw_host.specs.Told.{Told}
 use Rattle.sw_host.specs.Calls.{called, with_answer, with_taken, with_moved, Takes, Puts}
 use Rattle.system_calls.specs.Given.{HasGiven, environment}
 use Rattle.system_calls.specs.declared.outcome.CallOutcome.{CallOutcome}
-use Rattle.system_calls.specs.Making.{EndsRun, GivesResult, WantsMemory, Makes}
+use Rattle.system_calls.specs.Making.{EndsRun, GivesResult, CallWantsMemory, Makes}
 use Rattle.system_calls.proofs.Kept.{each_allowed, all_allowed}
 use Rattle.system_calls.proofs.Giving.{gives_nothing, gives_no_read, gives_no_write, gives_no_answer, gives_taken, gives_no_input, gives_moved}
 
 -- ---- whatever the call
 -- the host wasn't called
-pub wants_memory : (m n : Memory) (a : Told) → n ≡ m → WantsMemory m n a a
+pub wants_memory : (m n : Memory) (a : Told) → n ≡ m → CallWantsMemory m n a a
 wants_memory m n a h = record { memory = h; calls = 0; host = gives_nothing a }
 
 -- its call gave no answer
-pub wants_memory_after : (m n : Memory) (a b : Told) → n ≡ m → b ≡ called a → WantsMemory m n a b
+pub wants_memory_after : (m n : Memory) (a b : Told) → n ≡ m → b ≡ called a → CallWantsMemory m n a b
 wants_memory_after m n a b h e = record { memory = h; calls = 1; host = (rw e (gives_no_answer a)) }
 
 -- the run ends

@@ -6,15 +6,15 @@ use Rattle.outside.specs.Environment.{Environment}
 use Rattle.traces.specs.Trace.{Label, End}
 use Rattle.memory.specs.Memory.{Memory, Stored, store_all}
 use Rattle.memory.specs.SystemCall.{Request, Called, Ends, Gives}
-use Rattle.mem_pages.specs.Ends.{end_of}
+use Rattle.mem_pages.specs.Ends.{end_of_run}
 use Rattle.sw_host.specs.Told.{Told}
 use Rattle.system_calls.specs.declared.request.CallRequest.{CallRequest}
 use Rattle.system_calls.specs.declared.outcome.CallOutcome.{CallOutcome}
 use Rattle.system_calls.specs.declared.outcome.CallOutcome.TheVariants as outcome
 use Rattle.system_calls.specs.Given.{environment, HasGiven}
 
-abbrev pub request_of : CallRequest → Request
-request_of q = record { number = q.number; fd = q.fd; at = q.at; count = q.count }
+abbrev pub as_request : CallRequest → Request
+as_request q = record { number = q.number; fd = q.fd; at = q.at; count = q.count }
 
 -- the call ends the run, and nothing has changed
 pub record EndsRun (call : Environment → Called) (end : End) (m n : Memory) (a b : Told) : Type 0 where
@@ -33,7 +33,7 @@ pub record GivesResult (call : Environment → Called) (result : ℕ) (m n : Mem
   pub host : HasGiven answers 0 labels a b
 
 -- Memory was wanting: that of the program is as it was, and the host wasn't called, or its one call gave no answer.
-pub record WantsMemory (m n : Memory) (a b : Told) : Type 0 where
+pub record CallWantsMemory (m n : Memory) (a b : Told) : Type 0 where
   pub memory : n ≡ m
   pub calls : ℕ
   pub host : HasGiven [] calls [] a b
@@ -44,6 +44,6 @@ EndsAs (Some end) call m n a b = EndsRun call end m n a b
 
 -- what making a call does that comes to this over each environment, by the answer
 abbrev pub Makes : (Environment → Called) → Result CallOutcome AllocError → Memory → Memory → Told → Told → Type 0
-Makes call (Ok (outcome.Ended end)) m n a b = EndsAs (end_of end) call m n a b
+Makes call (Ok (outcome.Ended end)) m n a b = EndsAs (end_of_run end) call m n a b
 Makes call (Ok (outcome.Returned result)) m n a b = GivesResult call result m n a b
-Makes call (Err _) m n a b = WantsMemory m n a b
+Makes call (Err _) m n a b = CallWantsMemory m n a b

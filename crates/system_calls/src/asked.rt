@@ -4,7 +4,7 @@ ghost use Rattle.outside.specs.Environment.{Environment};
 ghost use Rattle.memory.specs.Memory.{Memory};
 ghost use Rattle.x86_values.specs.Words as words;
 ghost use Rattle.memory.specs.SystemCall.{exit_call, read_call, write_call, system_call, transfer_call};
-ghost use Rattle.system_calls.specs.Making.{request_of};
+ghost use Rattle.system_calls.specs.Making.{as_request};
 ghost use Rattle.system_calls.specs.Plans.{call_asked};
 
 use crate::CallRequest;
@@ -22,7 +22,7 @@ pub(crate) enum Asked {
 /// By the number of the call, and then by what that call looks at.
 #[tactic(auto, unfolding(memory::specs::SystemCall::system_call))]
 pub(crate) fn call_of(request: &CallRequest) -> Asked
-    ensures { (m : Memory) (left : Environment) → system_call (request_of request.now) m left ≡ call_asked result m left }
+    ensures { (m : Memory) (left : Environment) → system_call (as_request request.now) m left ≡ call_asked result m left }
 {
     match known(request.number) {
         None => Asked::Unspecified,

@@ -4,7 +4,7 @@ ghost use Rattle.mem_pages.specs.Accesses.{KeepsPages};
 ghost use Rattle.mem_pages.specs.Contents.{memory_in};
 ghost use Rattle.memory.specs.SystemCall.{system_call};
 ghost use Rattle.sw_host.specs.Told.{Tells};
-ghost use Rattle.system_calls.specs.Making.{Makes, request_of};
+ghost use Rattle.system_calls.specs.Making.{Makes, as_request};
 
 use crate::asked::{Asked, call_of};
 use crate::read::read;
@@ -23,7 +23,7 @@ pub fn make_call<H: Host>(
     host: &mut H,
 ) -> Result<CallOutcome, AllocError>
     ensures makes { Tells (H.told host.old) (H.told host.new)
-        (Makes (system_call (request_of request.now) (memory_in pages.old)) result (memory_in pages.old) (memory_in pages.new)) }
+        (Makes (system_call (as_request request.now) (memory_in pages.old)) result (memory_in pages.old) (memory_in pages.new)) }
     ensures keeps { KeepsPages pages.old pages.new }
     ensures faults { H.faults host.old ≤ H.faults host.new }
 {

@@ -5,7 +5,7 @@ use Rattle.std.specs.declared.alloc.AllocError.{AllocError}
 use Rattle.outside.specs.declared.answer.Answer.{Answer}
 use Rattle.outside.specs.Environment.{Environment}
 use Rattle.traces.specs.Trace.{End, Go, Halt, Unspecified}
-use Rattle.mem_pages.specs.Ends.{end_of}
+use Rattle.mem_pages.specs.Ends.{end_of_run}
 use Rattle.mem_pages.specs.declared.end.RunEnd.{RunEnd}
 use Rattle.mem_pages.specs.declared.end.RunEnd.TheVariants as ends
 use Rattle.x86_values.specs.declared.word.Word.{Word}
@@ -36,7 +36,7 @@ pub regs_set : (regs : List Word) (w : Word) → 0 < length regs → registers_o
 regs_set regs w h = λ i k. reg_set regs w h k i
 
 -- ---- what the call comes to
-pub call_ends : (c : Cpu) (m n : Memory) (end : RunEnd) (o : Option End) (a b : Told) → end_of end ≡ o → EndsAs o (system_call (asked c) m) m n a b → MoveHalts (called_from c m) end a b
+pub call_ends : (c : Cpu) (m n : Memory) (end : RunEnd) (o : Option End) (a b : Told) → end_of_run end ≡ o → EndsAs o (system_call (asked c) m) m n a b → MoveHalts (called_from c m) end a b
 call_ends c m n end None a b is h = absurd h
 call_ends c m n end (Some last) a b is h = record {
   answers = [];
@@ -96,7 +96,7 @@ module _ (o p : Option Told) (c : Cpu) (m n : Memory) (q : Request) (is : q ≡ 
   tells_ended r end e t =
       let at_q : Tells o p (Makes (system_call (asked c) m) (Ok r) m n) = subst (λ (x : Request). Tells o p (Makes (system_call x m) (Ok r) m n)) is t in
       let at : Tells o p (Makes (system_call (asked c) m) (Ok (outcome.Ended end)) m n) = subst (λ (x : CallOutcome). Tells o p (Makes (system_call (asked c) m) (Ok x) m n)) e at_q in
-      tells_map o p (Makes (system_call (asked c) m) (Ok (outcome.Ended end)) m n) (CallsOn (Ok (Some end)) c m c n) at (λ a b h. call_ends c m n end (end_of end) a b refl h)
+      tells_map o p (Makes (system_call (asked c) m) (Ok (outcome.Ended end)) m n) (CallsOn (Ok (Some end)) c m c n) at (λ a b h. call_ends c m n end (end_of_run end) a b refl h)
 
   returned_at : (r : CallOutcome) (result : ℕ) → r ≡ outcome.Returned result → Tells o p (Makes (system_call q m) (Ok r) m n) → Tells o p (GivesResult (system_call (asked c) m) result m n)
   returned_at r result e t =

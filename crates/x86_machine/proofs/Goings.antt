@@ -6,7 +6,7 @@ use Rattle.traces.specs.Trace as trace
 use Rattle.traces.specs.Steps.{Reaches, rests}
 use Rattle.traces.specs.RunLaws.{RunLaws}
 use Rattle.traces.specs.TraceLaws.{TraceLaws}
-use Rattle.mem_pages.specs.Ends.{end_of}
+use Rattle.mem_pages.specs.Ends.{end_of_run}
 use Rattle.mem_pages.specs.declared.end.RunEnd.{RunEnd}
 use Rattle.mem_pages.specs.declared.end.RunEnd.TheVariants as ends
 use Rattle.x86_code.specs.Code.{Code}
@@ -102,7 +102,7 @@ ends_last laws k budget end m n p a b c g h within =
     let mid : List Answer → State = λ rest. state_in n (environment b (h.move.answers ++ rest)) in
     let step : (rest : List Answer) → machine (code_in m) (mid rest) ≡ Halt h.move.labels h.move.last = λ rest. subst (λ (code : Code). machine code (mid rest) ≡ Halt h.move.labels h.move.last) g.code (h.move.halts rest) in
     let same : (rest : List Answer) → state_in m (environment a ((g.answers ++ h.move.answers) ++ rest)) ≡ from (h.move.answers ++ rest) = λ rest. ap (λ (answers : List Answer). state_in m (environment a answers)) (append_assoc g.answers h.move.answers rest) in
-    let all : (n : ℕ) → k + 1 ≤ n → (rest : List Answer) → run (machine (code_in m)) (state_in m (environment a ((g.answers ++ h.move.answers) ++ rest))) n ≡ seen (g.labels ++ h.move.labels) (end_of end) = λ j few rest.
+    let all : (n : ℕ) → k + 1 ≤ n → (rest : List Answer) → run (machine (code_in m)) (state_in m (environment a ((g.answers ++ h.move.answers) ++ rest))) n ≡ seen (g.labels ++ h.move.labels) (end_of_run end) = λ j few rest.
     ap (λ (s : State). run (machine (code_in m)) s j) (same rest) ∙ halts_within laws.runs (machine (code_in m)) (from (h.move.answers ++ rest)) k g.labels (mid rest) h.move.labels h.move.last j (g.reaches (h.move.answers ++ rest)) (step rest) few ∙ ap (seen (g.labels ++ h.move.labels)) (sym h.move.is_last) in
     let one : k + 1 ≤ k + 1 = omega arith in
     record {
@@ -154,7 +154,7 @@ spends laws budget m n p a b g w = record {
 }
 
 -- what a run does that ends so
-pub runs_ended : (budget : ℕ) (end : RunEnd) (last : End) (m p : Machine) (a c : Told) → end_of end ≡ Some last → HasEnded budget end m p a c → Runs budget (Ok end) m p a c
+pub runs_ended : (budget : ℕ) (end : RunEnd) (last : End) (m p : Machine) (a c : Told) → end_of_run end ≡ Some last → HasEnded budget end m p a c → Runs budget (Ok end) m p a c
 runs_ended budget (ends.Exited status) last m p a c is h = h
 runs_ended budget ends.MemoryFault last m p a c is h = h
 runs_ended budget ends.DivideFault last m p a c is h = h

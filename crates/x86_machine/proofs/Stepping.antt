@@ -3,7 +3,7 @@ use Rattle.std.proofs.Common.{◌≡◌, ℕ, [], ◌++◌, Option, Some, None, 
 use Rattle.std.specs.declared.alloc.AllocError.{AllocError}
 use Rattle.outside.specs.Environment.{Environment}
 use Rattle.traces.specs.Trace.{End, Go}
-use Rattle.mem_pages.specs.Ends.{end_of}
+use Rattle.mem_pages.specs.Ends.{end_of_run}
 use Rattle.mem_pages.specs.declared.end.RunEnd.{RunEnd}
 use Rattle.memory.specs.Memory.{Memory}
 use Rattle.x86_types.specs.declared.instr.Instr.{Instr}
@@ -24,7 +24,7 @@ module _ (o p : Option Told) (i : Instr) (len : ℕ) (c d : Cpu) (m n : Memory) 
   pub nexts : ((left : Environment) → step i len (state_of c m left) ≡ Go [] (state_of d n left)) → Tells o o (StepsOn i len (Ok None) c m d n)
   nexts h = tells_none o (StepsOn i len (Ok None) c m d n) (λ a. record { answers = []; labels = []; goes = λ rest. h (environment a rest); host = gives_none a })
 
-  pub halts : (end : RunEnd) (last : End) → end_of end ≡ Some last → HaltsWith i len last c m d n → Tells o o (StepsOn i len (Ok (Some end)) c m d n)
+  pub halts : (end : RunEnd) (last : End) → end_of_run end ≡ Some last → HaltsWith i len last c m d n → Tells o o (StepsOn i len (Ok (Some end)) c m d n)
   halts end last is h = tells_none o (StepsOn i len (Ok (Some end)) c m d n) (λ a. record { answers = []; labels = []; last = last; is_last = is; halts = λ rest. h.halts (environment a rest); host = gives_none a })
 
   -- the step of a call is the call, where eip has moved on

@@ -4,7 +4,7 @@ use Rattle.std.specs.declared.alloc.AllocError.{AllocError}
 use Rattle.outside.specs.declared.answer.Answer.{Answer}
 use Rattle.traces.specs.Trace.{Label, seen}
 use Rattle.traces.specs.Steps.{Reaches}
-use Rattle.mem_pages.specs.Ends.{end_of}
+use Rattle.mem_pages.specs.Ends.{end_of_run}
 use Rattle.mem_pages.specs.declared.end.RunEnd.{RunEnd}
 use Rattle.mem_pages.specs.declared.end.RunEnd.TheVariants as run
 use Rattle.x86_meaning.specs.Run.{machine, run_from}
@@ -36,18 +36,18 @@ pub record IsSpent (budget : ℕ) (m n : Machine) (a b : Told) : Type 0 where
 pub record HasEnded (budget : ℕ) (end : RunEnd) (m n : Machine) (a b : Told) : Type 0 where
   pub answers : List Answer
   pub labels : List Label
-  pub run : (rest : List Answer) → run_from (code_in m) (state_in m (environment a (answers ++ rest))) budget ≡ seen labels (end_of end)
+  pub run : (rest : List Answer) → run_from (code_in m) (state_in m (environment a (answers ++ rest))) budget ≡ seen labels (end_of_run end)
   pub host : HasGiven answers 0 labels a b
   pub steps : ℕ
   pub within : steps ≤ budget
   pub before_it : (k : ℕ) → k + 1 ≤ steps → (rest : List Answer) → (run_from (code_in m) (state_in m (environment a (answers ++ rest))) k).end ≡ None
-  pub at_it : (rest : List Answer) → (run_from (code_in m) (state_in m (environment a (answers ++ rest))) steps).end ≡ end_of end
+  pub at_it : (rest : List Answer) → (run_from (code_in m) (state_in m (environment a (answers ++ rest))) steps).end ≡ end_of_run end
   pub counted : steps_in n ≡ steps_after steps (steps_in m)
   pub code : code_in n ≡ code_in m
   pub ended : ended_in n ≡ Some end
 
 -- it had come to an end before: it makes no step and no call, and answers that end again
-pub record Stays (m n : Machine) (a b : Told) : Type 0 where
+pub record StaysEnded (m n : Machine) (a b : Told) : Type 0 where
   pub machine : n ≡ m
   pub host : b ≡ a
 
@@ -65,4 +65,4 @@ Runs budget (Err _) m n a b = (steps : ℕ) × (more : ℕ) × (steps ≤ budget
 -- what a call of `run` does
 abbrev pub RunsFrom : Option RunEnd → ℕ → Result RunEnd AllocError → Machine → Machine → Told → Told → Type 0
 RunsFrom None budget result m n a b = Runs budget result m n a b
-RunsFrom (Some end) budget result m n a b = (result ≡ Ok end) × Stays m n a b
+RunsFrom (Some end) budget result m n a b = (result ≡ Ok end) × StaysEnded m n a b

@@ -5,7 +5,7 @@ use Rattle.outside.specs.declared.answer.Answer.{Answer}
 use Rattle.outside.specs.Environment.{Environment}
 use Rattle.traces.specs.Trace.{Label, End, Move, Stand, Go, Halt}
 use Rattle.traces.specs.Trace as trace
-use Rattle.mem_pages.specs.Ends.{end_of}
+use Rattle.mem_pages.specs.Ends.{end_of_run}
 use Rattle.mem_pages.specs.declared.end.RunEnd.{RunEnd}
 use Rattle.mem_pages.specs.declared.end.RunEnd.TheVariants as run
 use Rattle.memory.specs.Memory.{Memory}
@@ -35,7 +35,7 @@ pub record MoveHalts (move : Environment → Move State) (end : RunEnd) (a b : T
   pub answers : List Answer
   pub labels : List Label
   pub last : End
-  pub is_last : end_of end ≡ Some last
+  pub is_last : end_of_run end ≡ Some last
   pub halts : (rest : List Answer) → move (environment a (answers ++ rest)) ≡ Halt labels last
   pub host : HasGiven answers 0 labels a b
 

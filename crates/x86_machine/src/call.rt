@@ -2,7 +2,7 @@
 ghost use Rattle.std.specs.Prelude.{◌≡◌, ◌≤◌};
 ghost use Rattle.mem_pages.specs.Contents.{memory_in};
 ghost use Rattle.sw_host.specs.Told.{Tells};
-ghost use Rattle.system_calls.specs.Making.{request_of};
+ghost use Rattle.system_calls.specs.Making.{as_request};
 ghost use Rattle.x86_values.specs.Words as words;
 ghost use Rattle.x86_meaning.specs.Registers.{with_register};
 ghost use Rattle.x86_step.specs.Steps.{registers_of};
@@ -18,7 +18,7 @@ use x86_values::{Word, known, word_of};
 // What a system call is asked by.
 #[tactic(auto, unfolding(x86_values::specs::Words::word_of))]
 fn request(cpu: &Cpu) -> CallRequest
-    ensures { request_of result ≡ asked cpu.now }
+    ensures { as_request result ≡ asked cpu.now }
 {
     CallRequest {
         number: cpu.regs[0],
