@@ -2,12 +2,12 @@
 // Linux for the i386 and this project's own rules.
 use crate::files::{ADD_TWO, EXIT_SEVEN, file_of};
 use crate::hosts::{REWRITE, end_of, line_of};
+use mem_pages::RunEnd;
 use outside::Answer;
 use std::alloc::Global;
 use std::process::Abort;
 use std::test::Fail;
 use sw_host::MemoryHost;
-use mem_pages::RunEnd;
 use sw_top::{End, status};
 
 /// A run of a plain file with this text: the input, what is written to descriptor 1, and the end.
@@ -257,7 +257,10 @@ fn runs_out_of_stack(rt: HostRuntime) -> Result<(), Fail> {
 #[test]
 fn counts_its_steps(rt: HostRuntime) -> Result<(), Fail> {
     let alloc = rt.alloc();
-    let file = file_of(alloc, b"\xB9\x03\0\0\0\x49\x75\xFD\xBB\0\0\0\0\xB8\x01\0\0\0\xCD\x80\xF4")?;
+    let file = file_of(
+        alloc,
+        b"\xB9\x03\0\0\0\x49\x75\xFD\xBB\0\0\0\0\xB8\x01\0\0\0\xCD\x80\xF4",
+    )?;
     for (steps, end, result, line) in [
         ("9", RunEnd::Spent, 119, b"sw: steps spent".as_slice()),
         ("10", RunEnd::Exited(0), 0, b"".as_slice()),
@@ -276,7 +279,10 @@ fn counts_its_steps(rt: HostRuntime) -> Result<(), Fail> {
 #[test]
 fn takes_answers(rt: HostRuntime) -> Result<(), Fail> {
     let alloc = rt.alloc();
-    let file = file_of(alloc, b"\xB8\x04\0\0\0\xBB\x01\0\0\0\xB9\x23\x90\x04\x08\xBA\x03\0\0\0\xCD\x80\xBB\0\0\0\0\xB8\x01\0\0\0\xCD\x80\xF4\x68\x69\x0A")?;
+    let file = file_of(
+        alloc,
+        b"\xB8\x04\0\0\0\xBB\x01\0\0\0\xB9\x23\x90\x04\x08\xBA\x03\0\0\0\xCD\x80\xBB\0\0\0\0\xB8\x01\0\0\0\xCD\x80\xF4\x68\x69\x0A",
+    )?;
     let mut host = MemoryHost::new(alloc);
     host.add_file("a", file.as_slice())?;
     host.add_answer(Answer::Fail(5))?;

@@ -8,7 +8,9 @@ use x86_values::Byte;
 
 /// The first page, and the first address behind the second.
 const START: u32 = 0x2000_0000;
+
 const BETWEEN: u32 = 0x2000_1000;
+
 const END: u32 = 0x2000_2000;
 
 /// The window, half of it in each page.

@@ -33,8 +33,8 @@ unfolding allows_all
 all_allowed kind m at zero h = refl
 all_allowed kind m at (suc n) h =
     both (allows kind (m (wrapped at))) (allows_all kind m (at + 1) n) (rw (add-zero at) at (h 0 (omega arith))) (all_allowed kind m (at + 1) n (λ k l.
-        let same : at + 1 + k ≡ at + suc k = omega arith in
-        rw same (h (suc k) (omega arith))))
+    let same : at + 1 + k ≡ at + suc k = omega arith in
+    rw same (h (suc k) (omega arith))))
 
 -- a place that can be written is mapped
 mapped_if_writable : (p : Option Place) → allows Store p ≡ true → allows Load p ≡ true

@@ -87,8 +87,8 @@ read_taken fd at room k before now m n a b same e t =
     let front : take k now ≡ take k a.left = ap (take k) t.2 ∙ take-append-le k (take k a.left) (drop k before) whole ∙ take_all k (take k a.left) within in
     let least : min k room ≡ k = grind arith in
     let shown : List Answer → ℕ → ℕ → Called =
-        λ rest j l.
-            Gives (Took ∷ Made (Read fd (take j a.left) l) ∷ []) l (record { at = at; bytes = map Known (take j a.left) } ∷ []) (record { input = drop j a.left; answers = rest })
+    λ rest j l.
+    Gives (Took ∷ Made (Read fd (take j a.left) l) ∷ []) l (record { at = at; bytes = map Known (take j a.left) } ∷ []) (record { input = drop j a.left; answers = rest })
     in
     record {
       answers = Take k ∷ [];

@@ -9,7 +9,7 @@ ghost use Rattle.system_calls.specs.Making.{Makes, as_request};
 use crate::asked::{Asked, call_of};
 use crate::read::read;
 use crate::write::write;
-use crate::{CallRequest, CallOutcome};
+use crate::{CallOutcome, CallRequest};
 use mem_pages::{Pages, RunEnd};
 use std::alloc::{AllocError, Global};
 use sw_host::Host;

@@ -23,7 +23,13 @@ enum WritePlan {
 }
 
 // By the rules in their order.
-fn write_plan(alloc: Global, fd: u32, at: u32, count: u32, pages: &Pages) -> Result<WritePlan, AllocError>
+fn write_plan(
+    alloc: Global,
+    fd: u32,
+    at: u32,
+    count: u32,
+    pages: &Pages,
+) -> Result<WritePlan, AllocError>
     ensures { IfOk result (λ plan. write_plan_of plan ≡ spec.write_plan (memory_in pages.now) fd at count) }
 {
     if fd != 1 && fd != 2 {
