@@ -70,15 +70,15 @@ static const Form FORMS[] = {
 };
 enum { FORM_COUNT = sizeof FORMS / sizeof *FORMS };
 
-/* Which may have the prefix 66: those with operands of two or four bytes by the w bit or the opcode; not these. */
+/* Which of the forms without a w bit may have the prefix 66, which makes their operands two bytes. */
 static int takes_operand_size(const char *name) {
-    static const char *const WITHOUT[] = {"Alu al", "Alu eax", "Alu imm8", "Alu imm32", "Test imm", "Test imm8", "Mov imm", "Mov imm8", "Mov r", "Mov r8", "ImulBy", "Shld", "Shrd", "Shld cl", "Shrd cl", "Push", "Push imm", "Push m", "Pop", "Pop m", "Movzx", "Movsx", "Setcc", "Bswap", "Jmp", "JmpTo", "CallTo", "Jcc", "Call", "Ret", "Ret drop", "Leave", "Cld", "Nop", "Rep movs", "Rep stos"};
-    for (unsigned i = 0; i < sizeof WITHOUT / sizeof *WITHOUT; i++) {
-        if (!strcmp(name, WITHOUT[i])) {
-            return 0;
+    static const char *const WITH[] = {"Alu eax", "Alu imm32", "Alu sign", "Test imm", "Mov imm", "Mov r", "Lea", "Imul", "ImulBy", "ImulBy sign", "Cmov", "Extend", "Spread", "Bsf", "Bsr"};
+    for (unsigned i = 0; i < sizeof WITH / sizeof *WITH; i++) {
+        if (!strcmp(name, WITH[i])) {
+            return 1;
         }
     }
-    return 1;
+    return 0;
 }
 
 typedef struct {
@@ -148,7 +148,10 @@ static void make_state(int form, uint8_t *record) {
     if (!strcmp(FORMS[form].name, "Leave")) {
         s.regs[EBP] = place();
     }
-    if (takes_operand_size(FORMS[form].name) && below(4) == 0 && !strchr(FORMS[form].text, 'w')) {
+    /* MOVZX and MOVSX take the prefix where they read a byte, the other forms with a w bit where it is set. */
+    int wide = below(2), extends = strstr(FORMS[form].name, "Mov") && strchr(FORMS[form].name, 'x');
+    int half = below(3) == 0 && (strchr(FORMS[form].text, 'w') ? wide != extends : takes_operand_size(FORMS[form].name));
+    if (half) {
         put(&s, 0x66);
     }
     int operation = below(8);
@@ -161,13 +164,13 @@ static void make_state(int form, uint8_t *record) {
             put_operand(&s, reg, *t == 'M');
             t += 2;
         } else if ((*t == '1' || *t == '2' || *t == '4') && (t[1] == 0 || t[1] == ' ')) {
-            put_number(&s, value(), *t - '0');
+            put_number(&s, value(), *t == '4' && half ? 2 : *t - '0');
             t++;
         } else if (*t == 'o') {
             put(&s, 8 * operation + t[1] - '0');
             t += 2;
         } else if (*t == 'w') {
-            s.bytes[s.count - 1] |= below(2);
+            s.bytes[s.count - 1] |= wide;
             t++;
         } else if (*t == 'c') {
             s.bytes[s.count - 1] += below(16);
