@@ -142,7 +142,7 @@ way_after_all [] ws e = refl
 way_after_all (o ∷ os) [] e = refl
 way_after_all (o ∷ os) (w ∷ ws) e = way_after_all os ws (written_to o.size o.location w e) ∙ way_after o.size o.location w e
 
--- so does no effect
+-- an effect goes through no system call
 abbrev pub EffectCallsNone : Result Effect Stop → Type 0
 EffectCallsNone (Err x) = Unit {0}
 EffectCallsNone (Ok e) = is_call e.way ≡ false

@@ -12,3 +12,4 @@ pub mod Performing
 pub mod FastForms
 pub mod OneForms
 pub mod FlowForms
+pub mod FourBytes

@@ -9,7 +9,8 @@ ghost use Rattle.x86_step.specs.Making.{FastOrStays};
 ghost use Rattle.x86_step.specs.Steps.{registers_of};
 ghost use Rattle.x86_step.specs.Transferred.{location_of};
 
-use crate::arithmetic::{alu_computed, test_computed};
+use crate::arithmetic::test_computed;
+use crate::fast_sums::alu_by_width;
 use crate::fast_values::{alu_values, one_value, two_values};
 use crate::moving::move_computed;
 use crate::operand::{Location, rm_location, source_location};
@@ -42,7 +43,7 @@ fn alu_at(
     match alu_values(op, width, to_at, from_at, cpu, mem) {
         None => false,
         Some(values) => {
-            let made = alu_computed(op, width.size(), cpu.flags, values);
+            let made = alu_by_width(op, width, cpu.flags, values);
             perform(operand(width, to_at), made, len, cpu, mem)
         }
     }

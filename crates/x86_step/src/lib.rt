@@ -10,6 +10,7 @@ mod effect;
 mod fast;
 mod fast_flow;
 mod fast_one;
+mod fast_sums;
 mod fast_two;
 mod fast_values;
 mod finish;

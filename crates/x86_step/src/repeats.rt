@@ -38,7 +38,7 @@ fn movs_once(width: Width, from: u32, to: u32) -> Transfer
     }
 }
 
-// And once of many.
+// MOVS with a repeat: ecx is read and written too.
 fn movs_again(width: Width, from: u32, to: u32) -> Transfer
     ensures { Some (transfer_of result) ≡ spec.movs_transfer (size_of width) (Some from) (Some to) (spec.register 4 1 ∷ []) }
 {
@@ -70,7 +70,7 @@ fn stos_once(width: Width, to: u32) -> Transfer
     }
 }
 
-// And once of many.
+// STOS with a repeat: ecx is read and written too.
 fn stos_again(width: Width, to: u32) -> Transfer
     ensures { Some (transfer_of result) ≡ spec.stos_transfer width (Some to) (spec.register 4 1 ∷ []) }
 {

@@ -85,7 +85,7 @@ pub(crate) fn push(at: Option<u32>) -> Option<Transfer>
     }
 }
 
-/// So it is, where an operand is read.
+/// An operand is read, and the word below esp is written.
 pub(crate) fn push_of(from: Option<Location>, at: Option<u32>) -> Option<Transfer>
     ensures { option_map transfer_of result ≡ spec.push_of (option_map location_of from) at }
 {
@@ -113,7 +113,7 @@ pub(crate) fn pop(at: Option<u32>) -> Option<Transfer>
     }
 }
 
-/// And an operand behind it.
+/// The word at esp is read; esp is written, and then an operand.
 pub(crate) fn pop_to(to: Option<Location>, at: Option<u32>) -> Option<Transfer>
     ensures { option_map transfer_of result ≡ spec.pop_to (option_map location_of to) at }
 {

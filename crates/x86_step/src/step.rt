@@ -48,7 +48,7 @@ fn step_whole(instr: &Instr, len: u8, cpu: &mut Cpu, mem: &mut Pages) -> Result<
     }
 }
 
-// So it does: in place where it can.
+// Makes such a step in place where it can, and else the whole way.
 #[tactic(auto, using(crate::proofs::Stepping::keeps_then))]
 fn step_plain(instr: &Instr, len: u8, cpu: &mut Cpu, mem: &mut Pages) -> Result<Stepped, AllocError>
     requires no_call { instr.now ≢ variants.Int80 }

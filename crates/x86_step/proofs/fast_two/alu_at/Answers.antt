@@ -15,6 +15,6 @@ returns-in-Some-clause-fast c =
     let a = c.args in
     let d = a.cpu.now in
     let m = memory_in a.mem.now in
-    let k = computation_of c.alu_computed-made.result in
+    let k = computation_of c.alu_by_width-made.result in
     performs c.step_laws.ensures (instr.Alu a.op a.width a.to a.from) (operand_of c.operand.result ∷ []) k a.len c.perform.result d c.perform.new.cpu m (memory_in c.perform.new.mem) c.perform.ensures.performs
-    (ap (λ o. effect_of (o ∷ []) (registers_of d.regs) k) c.operand.ensures ∙ alu_form a.op a.width a.to a.from (wrapped (d.eip + a.len)) d m (location_of a.to_at) (location_of a.from_at) (values_of c.in-Some.values) k c.requires.to c.requires.from c.in-Some.ensures (rw c.size.ensures.size at c.alu_computed-made.ensures.exact))
+    (ap (λ o. effect_of (o ∷ []) (registers_of d.regs) k) c.operand.ensures ∙ alu_form a.op a.width a.to a.from (wrapped (d.eip + a.len)) d m (location_of a.to_at) (location_of a.from_at) (values_of c.in-Some.values) k c.requires.to c.requires.from c.in-Some.ensures c.alu_by_width-made.ensures.exact)
