@@ -22,7 +22,7 @@ use Rattle.x86_step.specs.declared.operand.Size.{Size}
 use Rattle.x86_step.specs.declared.operand.Size.TheVariants as size
 use Rattle.x86_step.specs.declared.effect.Stored.{Stored}
 use Rattle.x86_step.specs.declared.effect.Effect.{Effect}
-use Rattle.x86_step.specs.Transferred.{bytes_of}
+use Rattle.x86_step.specs.Transferred.{bytes_in_size}
 use Rattle.x86_step.specs.Judged.{effect_from, effect_read, effect_seen, processor_of, store_allowed, stores_of, value_read, values_read, with_value}
 use Rattle.x86_step.specs.Steps.{registers_of, state_of}
 use Rattle.x86_step.specs.Finishing.{rest_of_step}
@@ -107,7 +107,7 @@ and_true : (b : Bool) → (b && true) ≡ b
 and_true true = refl
 and_true false = refl
 
-sized : (s : Size) (w : Word) → length (take (bytes_of s) (word_list w)) ≡ bytes_of s
+sized : (s : Size) (w : Word) → length (take (bytes_in_size s) (word_list w)) ≡ bytes_in_size s
 sized size.Zero w = refl
 sized size.One w = refl
 sized size.Two w = refl
@@ -115,7 +115,7 @@ sized size.Four w = refl
 
 one_store : (o : Option Stored) (m : Memory) → ranges_allowed (map stored_range (stores_of o)) m ≡ store_allowed o m
 one_store None m = refl
-one_store (Some s) m = and_true (allows_all Store m s.at (length (take (bytes_of s.size) (word_list s.word)))) ∙ ap (allows_all Store m s.at) (sized s.size s.word)
+one_store (Some s) m = and_true (allows_all Store m s.at (length (take (bytes_in_size s.size) (word_list s.word)))) ∙ ap (allows_all Store m s.at) (sized s.size s.word)
 
 stores_judged : (made : List Access) (o : Option Stored) (m : Memory) → map stored_range (stores_of o) ≡ store_ranges made → all_allowed Store made m ≡ store_allowed o m
 stores_judged made o m h = by_ranges made m ∙ (ap (λ rs. ranges_allowed rs m) (sym h) ∙ one_store o m)

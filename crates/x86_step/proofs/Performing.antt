@@ -20,19 +20,19 @@ use Rattle.x86_step.specs.declared.outcome.Way.{Way}
 use Rattle.x86_step.specs.declared.outcome.Way.TheVariants.{Falls, JumpsBy, JumpsTo, Repeats, Calls}
 use Rattle.x86_step.specs.Computed.{way_of}
 use Rattle.x86_step.specs.Finishing.{is_call}
-use Rattle.x86_step.specs.Transferred.{bytes_of, location_of}
+use Rattle.x86_step.specs.Transferred.{bytes_in_size, as_location}
 use Rattle.x86_step.proofs.Made.{effect_with}
 
 abbrev pub one_written : Size → Location → Word → Flags → Way → Registers → Result spec.Effect Stop
-one_written s l w f way regs = effect_of (operand (bytes_of s) (location_of l) ∷ []) regs (computed (w ∷ []) f (way_of way))
+one_written s l w f way regs = effect_of (operand (bytes_in_size s) (as_location l) ∷ []) regs (computed (w ∷ []) f (way_of way))
 
-pub lowest_written : (s : Size) (r : Reg) (p : Place) (w old new : Word) (f : Flags) (way : Way) (regs : Registers) → p ≡ Lowest r → old ≡ regs (number_of_reg r) → new ≡ with_bytes 0 (take (bytes_of s) (word_list w)) old
+pub lowest_written : (s : Size) (r : Reg) (p : Place) (w old new : Word) (f : Flags) (way : Way) (regs : Registers) → p ≡ Lowest r → old ≡ regs (number_of_reg r) → new ≡ with_bytes 0 (take (bytes_in_size s) (word_list w)) old
     → Ok (effect_with (with_register (number_of_reg r) new regs) f None way) ≡ one_written s (Register p) w f way regs
-lowest_written s r p w old new f way regs e h k = rw e (ap (λ x. let y : Result spec.Effect Stop = Ok (effect_with (with_register (number_of_reg r) x regs) f None way) in y) (k ∙ ap (with_bytes 0 (take (bytes_of s) (word_list w))) h))
+lowest_written s r p w old new f way regs e h k = rw e (ap (λ x. let y : Result spec.Effect Stop = Ok (effect_with (with_register (number_of_reg r) x regs) f None way) in y) (k ∙ ap (with_bytes 0 (take (bytes_in_size s) (word_list w))) h))
 
-pub second_written : (s : Size) (r : Reg) (p : Place) (w old new : Word) (f : Flags) (way : Way) (regs : Registers) → p ≡ Second r → old ≡ regs (number_of_reg r) → new ≡ with_bytes 1 (take (bytes_of s) (word_list w)) old
+pub second_written : (s : Size) (r : Reg) (p : Place) (w old new : Word) (f : Flags) (way : Way) (regs : Registers) → p ≡ Second r → old ≡ regs (number_of_reg r) → new ≡ with_bytes 1 (take (bytes_in_size s) (word_list w)) old
     → Ok (effect_with (with_register (number_of_reg r) new regs) f None way) ≡ one_written s (Register p) w f way regs
-second_written s r p w old new f way regs e h k = rw e (ap (λ x. let y : Result spec.Effect Stop = Ok (effect_with (with_register (number_of_reg r) x regs) f None way) in y) (k ∙ ap (with_bytes 1 (take (bytes_of s) (word_list w))) h))
+second_written s r p w old new f way regs e h k = rw e (ap (λ x. let y : Result spec.Effect Stop = Ok (effect_with (with_register (number_of_reg r) x regs) f None way) in y) (k ∙ ap (with_bytes 1 (take (bytes_in_size s) (word_list w))) h))
 
 pub memory_written : (s : Size) (at : ℕ) (l : Location) (w : Word) (f : Flags) (way : Way) (regs : Registers) → l ≡ Memory at
     → Ok (effect_with regs f (Some (record { at = at; size = s; word = w })) way) ≡ one_written s l w f way regs

@@ -19,7 +19,7 @@ use Rattle.x86_step.specs.declared.operand.Size.{Size}
 use Rattle.x86_step.specs.declared.operand.Size.TheVariants as size
 use Rattle.x86_step.specs.declared.effect.Stored.{Stored}
 use Rattle.x86_step.specs.declared.effect.Effect.{Effect}
-use Rattle.x86_step.specs.Transferred.{bytes_of}
+use Rattle.x86_step.specs.Transferred.{bytes_in_size}
 use Rattle.x86_step.specs.Computed.{way_of}
 use Rattle.x86_step.specs.Judged.{store_allowed, stores_of, effect_seen, eip_after}
 use Rattle.x86_step.specs.Steps.{registers_of, state_of}
@@ -47,19 +47,19 @@ unfolding allows_all
 unmapped m at zero h = cc
 unmapped m at (suc n) h = both_false (allows Load (m (wrapped at))) (allows_all Load m (at + 1) n) (allows Store (m (wrapped at))) (allows_all Store m (at + 1) n) (place_allows (m (wrapped at))) (unmapped m (at + 1) n) h
 
-sized : (s : Size) (w : Word) (P : ℕ → Type 0) → P (length (take (bytes_of s) (word_list w))) → P (bytes_of s)
+sized : (s : Size) (w : Word) (P : ℕ → Type 0) → P (length (take (bytes_in_size s) (word_list w))) → P (bytes_in_size s)
 sized size.Zero w P h = h
 sized size.One w P h = h
 sized size.Two w P h = h
 sized size.Four w P h = h
 
-pub stores_if : (s : Stored) (r : Result (Unit {0}) PageFault) (p q : Pages) → Stores s.at (bytes_of s.size) s.word r p q → StoresIf (Some s) r p q
+pub stores_if : (s : Stored) (r : Result (Unit {0}) PageFault) (p q : Pages) → Stores s.at (bytes_in_size s.size) s.word r p q → StoresIf (Some s) r p q
 stores_if s (Ok _) p q h = (sized s.size s.word (λ n. allows_all Store (memory_in p) s.at n ≡ true) h.allowed, h.memory)
-stores_if s (Err fault.NotMapped) p q h = (unmapped (memory_in p) s.at (bytes_of s.size) h.0, h.1)
+stores_if s (Err fault.NotMapped) p q h = (unmapped (memory_in p) s.at (bytes_in_size s.size) h.0, h.1)
 stores_if s (Err fault.NotWritable) p q h = (h.1, h.2)
 stores_if s (Err fault.Memory) p q h = h.1
 
-pub no_size : (at : ℕ) (s : Size) (w : Word) (p : Pages) → s ≡ size.Zero → IsStored at (take (bytes_of s) (word_list w)) p p
+pub no_size : (at : ℕ) (s : Size) (w : Word) (p : Pages) → s ≡ size.Zero → IsStored at (take (bytes_in_size s) (word_list w)) p p
 no_size at s w p e = rw e (no_bytes at p)
 
 -- ---- the finish

@@ -25,7 +25,7 @@ use Rattle.x86_step.specs.declared.effect.Stored.{Stored}
 use Rattle.x86_step.specs.declared.effect.Effect.{Effect}
 use Rattle.x86_step.specs.Computed.{way_of}
 use Rattle.x86_step.specs.Steps.{registers_of}
-use Rattle.x86_step.specs.Transferred.{bytes_of}
+use Rattle.x86_step.specs.Transferred.{bytes_in_size}
 
 -- ---- what is read
 -- the lowest bytes of a word, and zeros above them
@@ -67,7 +67,7 @@ processor_of c = record { regs = registers_of c.regs; flags = c.flags }
 
 abbrev pub stores_of : Option Stored → List memory.Stored
 stores_of None = []
-stores_of (Some s) = record { at = s.at; bytes = take (bytes_of s.size) (word_list s.word) } ∷ []
+stores_of (Some s) = record { at = s.at; bytes = take (bytes_in_size s.size) (word_list s.word) } ∷ []
 
 abbrev pub effect_seen : Effect → spec.Effect
 effect_seen e = record { cpu = record { regs = registers_of e.regs; flags = e.flags }; stores = stores_of e.store; way = way_of e.way }
@@ -80,7 +80,7 @@ effect_seen_if (Err x) = Err x
 -- the store of an effect is allowed
 abbrev pub store_allowed : Option Stored → Memory → Bool
 store_allowed None m = true
-store_allowed (Some s) m = allows_all Store m s.at (bytes_of s.size)
+store_allowed (Some s) m = allows_all Store m s.at (bytes_in_size s.size)
 
 -- the address to which a step goes from one, where the next instruction stands at another; a system call comes later
 abbrev pub eip_after : outcomes.Way → ℕ → ℕ → ℕ

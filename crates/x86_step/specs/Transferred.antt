@@ -22,27 +22,27 @@ use Rattle.x86_step.specs.declared.operands.Writes.TheVariants as writes
 use Rattle.x86_step.specs.declared.operands.Transfer.{Transfer}
 
 -- how many bytes a size is
-abbrev pub bytes_of : Size → ℕ
-bytes_of size.Zero = 0
-bytes_of size.One = 1
-bytes_of size.Two = 2
-bytes_of size.Four = 4
+abbrev pub bytes_in_size : Size → ℕ
+bytes_in_size size.Zero = 0
+bytes_in_size size.One = 1
+bytes_in_size size.Two = 2
+bytes_in_size size.Four = 4
 
 -- where an operand stands
-abbrev pub place_of : Place → spec.Location
-place_of (Lowest r) = InRegister (number_of_reg r) 0
-place_of (Second r) = InRegister (number_of_reg r) 1
+abbrev pub as_place : Place → spec.Location
+as_place (Lowest r) = InRegister (number_of_reg r) 0
+as_place (Second r) = InRegister (number_of_reg r) 1
 
-abbrev pub location_of : Location → spec.Location
-location_of (Register p) = place_of p
-location_of (Memory at) = InMemory at
-location_of (Constant n) = spec.Constant n
+abbrev pub as_location : Location → spec.Location
+as_location (Register p) = as_place p
+as_location (Memory at) = InMemory at
+as_location (Constant n) = spec.Constant n
 
 abbrev pub operand_of : Operand → SizedOperand
-operand_of o = operand (bytes_of o.size) (location_of o.location)
+operand_of o = operand (bytes_in_size o.size) (as_location o.location)
 
-abbrev pub field_of : Field → SizedOperand
-field_of f = operand (bytes_of f.size) (place_of f.place)
+abbrev pub as_field : Field → SizedOperand
+as_field f = operand (bytes_in_size f.size) (as_place f.place)
 
 -- operands, in order
 abbrev pub reads_of : Reads → List SizedOperand
@@ -54,9 +54,9 @@ reads_of (reads.Four a b c d) = operand_of a ∷ operand_of b ∷ operand_of c �
 
 abbrev pub fields_of : Fields → List SizedOperand
 fields_of fields.Zero = []
-fields_of (fields.One a) = field_of a ∷ []
-fields_of (fields.Two a b) = field_of a ∷ field_of b ∷ []
-fields_of (fields.Three a b c) = field_of a ∷ field_of b ∷ field_of c ∷ []
+fields_of (fields.One a) = as_field a ∷ []
+fields_of (fields.Two a b) = as_field a ∷ as_field b ∷ []
+fields_of (fields.Three a b c) = as_field a ∷ as_field b ∷ as_field c ∷ []
 
 abbrev pub writes_of : Writes → List SizedOperand
 writes_of (writes.Fields fs) = fields_of fs

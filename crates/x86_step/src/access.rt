@@ -8,7 +8,7 @@ ghost use Rattle.x86_meaning.specs.Operands as operands;
 ghost use Rattle.x86_step.specs.Computed.{values_of};
 ghost use Rattle.x86_step.specs.Judged as judged;
 ghost use Rattle.x86_step.specs.Steps.{registers_of};
-ghost use Rattle.x86_step.specs.Transferred.{bytes_of, location_of, operand_of, reads_of};
+ghost use Rattle.x86_step.specs.Transferred.{bytes_in_size, as_location, operand_of, reads_of};
 
 use crate::operand::{Location, Place, Size, word_in};
 use crate::operands::{Operand, Reads};
@@ -20,7 +20,7 @@ use x86_values::{Byte, Word, word_of};
 // The lowest bytes of a word, and zeros above them.
 #[inline]
 fn lowest(size: Size, word: Word) -> Word
-    ensures { result ≡ judged.lowest (bytes_of size) word }
+    ensures { result ≡ judged.lowest (bytes_in_size size) word }
 {
     let zero = Byte::Known(0);
     match size {
@@ -50,7 +50,7 @@ fn lowest(size: Size, word: Word) -> Word
 #[inline]
 #[tactic(auto, using(crate::proofs::RegisterValues::second_part))]
 fn place_value(cpu: &Cpu, size: Size, place: Place) -> Word
-    ensures { result ≡ judged.place_value (bytes_of size) place (registers_of cpu.now.regs) }
+    ensures { result ≡ judged.place_value (bytes_in_size size) place (registers_of cpu.now.regs) }
 {
     match place {
         Place::Lowest(reg) => lowest(size, word_in(cpu, reg)),
@@ -87,7 +87,7 @@ fn word_if(number: Option<u32>) -> Word
 #[inline]
 #[tactic(auto, unfolding(memory::specs::Memory::allows_all, memory::specs::Memory::bytes_at))]
 fn load(mem: &Pages, at: u32, size: Size) -> Option<Word>
-    ensures { result ≡ pages.loaded (memory_in mem.now) at (bytes_of size) }
+    ensures { result ≡ pages.loaded (memory_in mem.now) at (bytes_in_size size) }
 {
     match size {
         Size::Zero => Some(lowest(Size::Zero, word_of(0))),
@@ -100,7 +100,7 @@ fn load(mem: &Pages, at: u32, size: Size) -> Option<Word>
 /// The value of an operand; `None` where its load isn't allowed.
 #[inline]
 pub(crate) fn value(operand: Operand, cpu: &Cpu, mem: &Pages) -> Option<Word>
-    ensures { result ≡ judged.value_read (bytes_of operand.size) (location_of operand.location) (registers_of cpu.now.regs) (memory_in mem.now) }
+    ensures { result ≡ judged.value_read (bytes_in_size operand.size) (as_location operand.location) (registers_of cpu.now.regs) (memory_in mem.now) }
 {
     match operand.location {
         Location::Register(place) => Some(place_value(cpu, operand.size, place)),

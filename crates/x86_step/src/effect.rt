@@ -6,7 +6,7 @@ ghost use Rattle.x86_meaning.specs.Operands.{SizedOperand};
 ghost use Rattle.x86_meaning.specs.Registers as registers;
 ghost use Rattle.x86_step.specs.Computed.{values_of};
 ghost use Rattle.x86_step.specs.Judged.{effect_seen};
-ghost use Rattle.x86_step.specs.Transferred.{bytes_of, field_of, fields_of, location_of, operand_of, place_of, writes_of};
+ghost use Rattle.x86_step.specs.Transferred.{bytes_in_size, as_field, fields_of, as_location, operand_of, as_place, writes_of};
 
 use crate::operand::{Location, Place, Size, register};
 use crate::operands::{Field, Fields, Operand, Writes};
@@ -36,7 +36,7 @@ pub(crate) struct Effect {
 /// A word whose lowest bytes are those of another.
 #[inline]
 pub(crate) fn with_lowest(size: Size, word: Word, old: Word) -> Word
-    ensures { result ≡ registers.with_bytes 0 (take (bytes_of size) (word_list word)) old }
+    ensures { result ≡ registers.with_bytes 0 (take (bytes_in_size size) (word_list word)) old }
 {
     match size {
         Size::Zero => old,
@@ -59,7 +59,7 @@ pub(crate) fn with_lowest(size: Size, word: Word, old: Word) -> Word
 /// A word whose bytes from the second on are the lowest of another.
 #[inline]
 pub(crate) fn with_second(size: Size, word: Word, old: Word) -> Word
-    ensures { result ≡ registers.with_bytes 1 (take (bytes_of size) (word_list word)) old }
+    ensures { result ≡ registers.with_bytes 1 (take (bytes_in_size size) (word_list word)) old }
 {
     match size {
         Size::Zero => old,
@@ -86,7 +86,7 @@ pub(crate) fn with_second(size: Size, word: Word, old: Word) -> Word
 
 /// A word is written to an operand in a register.
 pub(crate) fn write_field(field: Field, word: Word, effect: &mut Effect)
-    ensures written { effect_seen effect.new ≡ spec.written_to (bytes_of field.size) (place_of field.place) word (effect_seen effect.old) }
+    ensures written { effect_seen effect.new ≡ spec.written_to (bytes_in_size field.size) (as_place field.place) word (effect_seen effect.old) }
     ensures store { effect.new.store ≡ effect.old.store }
 {
     match field.place {
@@ -104,7 +104,7 @@ pub(crate) fn write_field(field: Field, word: Word, effect: &mut Effect)
 /// A word is written to an operand, where nothing is stored yet.
 pub(crate) fn write(operand: Operand, word: Word, effect: &mut Effect)
     requires first { effect.old.store ≡ None }
-    ensures written { effect_seen effect.new ≡ spec.written_to (bytes_of operand.size) (location_of operand.location) word (effect_seen effect.old) }
+    ensures written { effect_seen effect.new ≡ spec.written_to (bytes_in_size operand.size) (as_location operand.location) word (effect_seen effect.old) }
 {
     let size = operand.size;
     match operand.location {
@@ -116,7 +116,7 @@ pub(crate) fn write(operand: Operand, word: Word, effect: &mut Effect)
 
 // The first of some words is written to an operand in a register; the others are left.
 fn write_next(field: Field, values: Values, effect: &mut Effect) -> Values
-    ensures written { (more : List SizedOperand) → spec.all_written (field_of field ∷ more) (values_of values) (effect_seen effect.old) ≡ spec.all_written more (values_of result) (effect_seen effect.new) }
+    ensures written { (more : List SizedOperand) → spec.all_written (as_field field ∷ more) (values_of values) (effect_seen effect.old) ≡ spec.all_written more (values_of result) (effect_seen effect.new) }
     ensures store { effect.new.store ≡ effect.old.store }
 {
     match values {

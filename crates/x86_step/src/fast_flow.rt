@@ -11,7 +11,7 @@ ghost use Rattle.x86_meaning.specs.Operands as spec;
 ghost use Rattle.x86_meaning.specs.Registers.{machine_naming};
 ghost use Rattle.x86_step.specs.Making.{FastOrStays};
 ghost use Rattle.x86_step.specs.Steps.{registers_of};
-ghost use Rattle.x86_step.specs.Transferred.{location_of};
+ghost use Rattle.x86_step.specs.Transferred.{as_location};
 
 use crate::fast_values::{field_operand, one_value, two_values};
 use crate::moving::move_computed;
@@ -142,7 +142,7 @@ pub(crate) fn fast_call(by: u32, len: u8, cpu: &mut Cpu, mem: &mut Pages) -> boo
 // PUSH, where its operand stands there and esp is known.
 #[inline]
 fn push_at(from: Src, from_at: Location, at: u32, len: u8, cpu: &mut Cpu, mem: &mut Pages) -> bool
-    requires from { Some (location_of from_at) ≡ spec.source_of machine_naming (registers_of cpu.old.regs) widths.Four from }
+    requires from { Some (as_location from_at) ≡ spec.source_of machine_naming (registers_of cpu.old.regs) widths.Four from }
     requires esp { Some at ≡ words.known (registers_of cpu.old.regs 4) }
     ensures fast { FastOrStays (instr.Push from) len result cpu.old (memory_in mem.old) cpu.new (memory_in mem.new) }
     ensures keeps { KeepsPages mem.old mem.new }

@@ -7,7 +7,7 @@ ghost use Rattle.x86_meaning.specs.Operands as spec;
 ghost use Rattle.x86_meaning.specs.Registers.{machine_naming};
 ghost use Rattle.x86_step.specs.Making.{FastOrStays};
 ghost use Rattle.x86_step.specs.Steps.{registers_of};
-ghost use Rattle.x86_step.specs.Transferred.{location_of};
+ghost use Rattle.x86_step.specs.Transferred.{as_location};
 
 use crate::arithmetic::{dec_computed, inc_computed};
 use crate::fast_values::{field_operand, field_values, one_value, shift_values};
@@ -25,7 +25,7 @@ use x86_types::{Count, Reg, Rm, ShiftOp, Width};
 #[inline]
 #[tactic(auto, using(crate::proofs::SizeOfWidth::size_of_width))]
 fn inc_at(width: Width, to: Rm, to_at: Location, len: u8, cpu: &mut Cpu, mem: &mut Pages) -> bool
-    requires { Some (location_of to_at) ≡ spec.location_of machine_naming (registers_of cpu.old.regs) width to }
+    requires { Some (as_location to_at) ≡ spec.location_of machine_naming (registers_of cpu.old.regs) width to }
     ensures fast { FastOrStays (instr.Inc width to) len result cpu.old (memory_in mem.old) cpu.new (memory_in mem.new) }
     ensures keeps { KeepsPages mem.old mem.new }
 {
@@ -55,7 +55,7 @@ pub(crate) fn fast_inc(width: Width, to: Rm, len: u8, cpu: &mut Cpu, mem: &mut P
 #[inline]
 #[tactic(auto, using(crate::proofs::SizeOfWidth::size_of_width))]
 fn dec_at(width: Width, to: Rm, to_at: Location, len: u8, cpu: &mut Cpu, mem: &mut Pages) -> bool
-    requires { Some (location_of to_at) ≡ spec.location_of machine_naming (registers_of cpu.old.regs) width to }
+    requires { Some (as_location to_at) ≡ spec.location_of machine_naming (registers_of cpu.old.regs) width to }
     ensures fast { FastOrStays (instr.Dec width to) len result cpu.old (memory_in mem.old) cpu.new (memory_in mem.new) }
     ensures keeps { KeepsPages mem.old mem.new }
 {
@@ -94,7 +94,7 @@ fn shift_at(
     cpu: &mut Cpu,
     mem: &mut Pages,
 ) -> bool
-    requires { Some (location_of to_at) ≡ spec.location_of machine_naming (registers_of cpu.old.regs) width to }
+    requires { Some (as_location to_at) ≡ spec.location_of machine_naming (registers_of cpu.old.regs) width to }
     ensures fast { FastOrStays (instr.Shift op width to count) len result cpu.old (memory_in mem.old) cpu.new (memory_in mem.new) }
     ensures keeps { KeepsPages mem.old mem.new }
 {
@@ -141,7 +141,7 @@ fn movzx_at(
     cpu: &mut Cpu,
     mem: &mut Pages,
 ) -> bool
-    requires { Some (location_of to_at) ≡ spec.location_of machine_naming (registers_of cpu.old.regs) width to }
+    requires { Some (as_location to_at) ≡ spec.location_of machine_naming (registers_of cpu.old.regs) width to }
     ensures fast { FastOrStays (instr.Movzx wide width reg to) len result cpu.old (memory_in mem.old) cpu.new (memory_in mem.new) }
     ensures keeps { KeepsPages mem.old mem.new }
 {
@@ -188,7 +188,7 @@ fn movsx_at(
     cpu: &mut Cpu,
     mem: &mut Pages,
 ) -> bool
-    requires { Some (location_of to_at) ≡ spec.location_of machine_naming (registers_of cpu.old.regs) width to }
+    requires { Some (as_location to_at) ≡ spec.location_of machine_naming (registers_of cpu.old.regs) width to }
     ensures fast { FastOrStays (instr.Movsx wide width reg to) len result cpu.old (memory_in mem.old) cpu.new (memory_in mem.new) }
     ensures keeps { KeepsPages mem.old mem.new }
 {
@@ -234,7 +234,7 @@ fn imul_at(
     cpu: &mut Cpu,
     mem: &mut Pages,
 ) -> bool
-    requires { Some (location_of to_at) ≡ spec.location_of machine_naming (registers_of cpu.old.regs) width to }
+    requires { Some (as_location to_at) ≡ spec.location_of machine_naming (registers_of cpu.old.regs) width to }
     ensures fast { FastOrStays (instr.Imul width reg to) len result cpu.old (memory_in mem.old) cpu.new (memory_in mem.new) }
     ensures keeps { KeepsPages mem.old mem.new }
 {

@@ -7,7 +7,7 @@ ghost use Rattle.x86_meaning.specs.Operands as spec;
 ghost use Rattle.x86_meaning.specs.Registers.{machine_naming};
 ghost use Rattle.x86_step.specs.Making.{FastOrStays};
 ghost use Rattle.x86_step.specs.Steps.{registers_of};
-ghost use Rattle.x86_step.specs.Transferred.{location_of};
+ghost use Rattle.x86_step.specs.Transferred.{as_location};
 
 use crate::arithmetic::test_computed;
 use crate::fast_sums::alu_by_width;
@@ -34,8 +34,8 @@ fn alu_at(
     cpu: &mut Cpu,
     mem: &mut Pages,
 ) -> bool
-    requires to { Some (location_of to_at) ≡ spec.location_of machine_naming (registers_of cpu.old.regs) width to }
-    requires from { Some (location_of from_at) ≡ spec.source_of machine_naming (registers_of cpu.old.regs) width from }
+    requires to { Some (as_location to_at) ≡ spec.location_of machine_naming (registers_of cpu.old.regs) width to }
+    requires from { Some (as_location from_at) ≡ spec.source_of machine_naming (registers_of cpu.old.regs) width from }
     ensures fast { FastOrStays (instr.Alu op width to from) len result cpu.old (memory_in mem.old) cpu.new (memory_in mem.new) }
     ensures keeps { KeepsPages mem.old mem.new }
 {
@@ -85,8 +85,8 @@ fn test_at(
     cpu: &mut Cpu,
     mem: &mut Pages,
 ) -> bool
-    requires to { Some (location_of to_at) ≡ spec.location_of machine_naming (registers_of cpu.old.regs) width to }
-    requires from { Some (location_of from_at) ≡ spec.source_of machine_naming (registers_of cpu.old.regs) width from }
+    requires to { Some (as_location to_at) ≡ spec.location_of machine_naming (registers_of cpu.old.regs) width to }
+    requires from { Some (as_location from_at) ≡ spec.source_of machine_naming (registers_of cpu.old.regs) width from }
     ensures fast { FastOrStays (instr.Test width to from) len result cpu.old (memory_in mem.old) cpu.new (memory_in mem.new) }
     ensures keeps { KeepsPages mem.old mem.new }
 {
@@ -135,8 +135,8 @@ fn mov_at(
     cpu: &mut Cpu,
     mem: &mut Pages,
 ) -> bool
-    requires to { Some (location_of to_at) ≡ spec.location_of machine_naming (registers_of cpu.old.regs) width to }
-    requires from { Some (location_of from_at) ≡ spec.source_of machine_naming (registers_of cpu.old.regs) width from }
+    requires to { Some (as_location to_at) ≡ spec.location_of machine_naming (registers_of cpu.old.regs) width to }
+    requires from { Some (as_location from_at) ≡ spec.source_of machine_naming (registers_of cpu.old.regs) width from }
     ensures fast { FastOrStays (instr.Mov width to from) len result cpu.old (memory_in mem.old) cpu.new (memory_in mem.new) }
     ensures keeps { KeepsPages mem.old mem.new }
 {

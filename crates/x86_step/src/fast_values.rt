@@ -10,7 +10,7 @@ ghost use Rattle.x86_meaning.specs.TransferShapes.{alu_reads, count_operand};
 ghost use Rattle.x86_step.specs.Computed.{values_of};
 ghost use Rattle.x86_step.specs.Judged.{values_read};
 ghost use Rattle.x86_step.specs.Steps.{registers_of};
-ghost use Rattle.x86_step.specs.Transferred.{location_of, operand_of};
+ghost use Rattle.x86_step.specs.Transferred.{as_location, operand_of};
 
 use crate::access::value;
 use crate::operand::Location;
@@ -25,7 +25,7 @@ use x86_types::{AluOp, Count, Reg, Width};
 /// The value of one operand; `None` where its load isn't allowed.
 #[inline]
 pub(crate) fn one_value(width: Width, from: Location, cpu: &Cpu, mem: &Pages) -> Option<Values>
-    ensures { option_map values_of result ≡ values_read (operand (size_of width) (location_of from) ∷ []) (registers_of cpu.now.regs) (memory_in mem.now) }
+    ensures { option_map values_of result ≡ values_read (operand (size_of width) (as_location from) ∷ []) (registers_of cpu.now.regs) (memory_in mem.now) }
 {
     match value(operand(width, from), cpu, mem) {
         Some(x) => Some(Values::One(x)),
@@ -42,7 +42,7 @@ pub(crate) fn two_values(
     cpu: &Cpu,
     mem: &Pages,
 ) -> Option<Values>
-    ensures { option_map values_of result ≡ values_read (operand (size_of width) (location_of to) ∷ operand (size_of width) (location_of from) ∷ []) (registers_of cpu.now.regs) (memory_in mem.now) }
+    ensures { option_map values_of result ≡ values_read (operand (size_of width) (as_location to) ∷ operand (size_of width) (as_location from) ∷ []) (registers_of cpu.now.regs) (memory_in mem.now) }
 {
     match (
         value(operand(width, to), cpu, mem),
@@ -63,7 +63,7 @@ pub(crate) fn alu_values(
     cpu: &Cpu,
     mem: &Pages,
 ) -> Option<Values>
-    ensures { option_map values_of result ≡ values_read (alu_reads op (size_of width) (location_of to) (location_of from)) (registers_of cpu.now.regs) (memory_in mem.now) }
+    ensures { option_map values_of result ≡ values_read (alu_reads op (size_of width) (as_location to) (as_location from)) (registers_of cpu.now.regs) (memory_in mem.now) }
 {
     if cancels(op) && is_same_register(to, from) {
         let zero = Location::Constant(Some(0));
@@ -82,7 +82,7 @@ pub(crate) fn shift_values(
     cpu: &Cpu,
     mem: &Pages,
 ) -> Option<Values>
-    ensures { option_map values_of result ≡ values_read (operand (size_of width) (location_of to) ∷ count_operand count ∷ []) (registers_of cpu.now.regs) (memory_in mem.now) }
+    ensures { option_map values_of result ≡ values_read (operand (size_of width) (as_location to) ∷ count_operand count ∷ []) (registers_of cpu.now.regs) (memory_in mem.now) }
 {
     match (
         value(operand(width, to), cpu, mem),
@@ -110,7 +110,7 @@ pub(crate) fn field_values(
     cpu: &Cpu,
     mem: &Pages,
 ) -> Option<Values>
-    ensures { option_map values_of result ≡ values_read (operand (size_of width) (operands.field machine_naming width reg) ∷ operand (size_of width) (location_of from) ∷ []) (registers_of cpu.now.regs) (memory_in mem.now) }
+    ensures { option_map values_of result ≡ values_read (operand (size_of width) (operands.field machine_naming width reg) ∷ operand (size_of width) (as_location from) ∷ []) (registers_of cpu.now.regs) (memory_in mem.now) }
 {
     two_values(width, in_field(width, reg), from, cpu, mem)
 }

@@ -5,7 +5,7 @@ ghost use Rattle.mem_pages.specs.Contents.{memory_in};
 ghost use Rattle.x86_step.specs.Computed.{way_of};
 ghost use Rattle.x86_step.specs.Finishing.{MovesOrStays, StoresIf, is_call, rest_of_step};
 ghost use Rattle.x86_step.specs.Judged as judged;
-ghost use Rattle.x86_step.specs.Transferred.{bytes_of};
+ghost use Rattle.x86_step.specs.Transferred.{bytes_in_size};
 
 use crate::Stepped;
 use crate::effect::{Effect, Stored};
@@ -18,7 +18,7 @@ use x86_types::Reg;
 use x86_values::{Word, known};
 
 fn count(size: Size) -> u32
-    ensures { result ≡ bytes_of size }
+    ensures { result ≡ bytes_in_size size }
 {
     match size {
         Size::Zero => 0,
@@ -42,7 +42,7 @@ fn can_store(stored: Option<Stored>, mem: &Pages) -> bool
 #[tactic(auto, using(crate::proofs::Storing::no_bytes, crate::proofs::Storing::keeps_itself))]
 #[inline]
 pub(crate) fn store_word(mem: &mut Pages, at: u32, size: Size, word: Word) -> Result<(), PageFault>
-    ensures stores { Stores at (bytes_of size) word result mem.old mem.new }
+    ensures stores { Stores at (bytes_in_size size) word result mem.old mem.new }
     ensures keeps { KeepsPages mem.old mem.new }
 {
     match size {

@@ -5,7 +5,7 @@ ghost use Rattle.x86_types.specs.Numbers.{number_of_reg, size_of};
 ghost use Rattle.x86_meaning.specs.Operands as spec;
 ghost use Rattle.x86_meaning.specs.Registers.{machine_naming};
 ghost use Rattle.x86_step.specs.Steps.{registers_of};
-ghost use Rattle.x86_step.specs.Transferred.{bytes_of, place_of, location_of};
+ghost use Rattle.x86_step.specs.Transferred.{bytes_in_size, as_place, as_location};
 
 use x86_meaning::Cpu;
 use x86_types::{Address, Reg, Rm, Src, Width, reg_number};
@@ -39,7 +39,7 @@ pub(crate) enum Location {
 /// The size of a width.
 #[inline]
 pub(crate) fn size_of(width: Width) -> Size
-    ensures { bytes_of result ≡ size_of width }
+    ensures { bytes_in_size result ≡ size_of width }
 {
     match width {
         Width::One => Size::One,
@@ -68,7 +68,7 @@ pub(crate) fn word_in(cpu: &Cpu, reg: Reg) -> Word
 /// The place that a register field names, by its width.
 #[inline]
 pub(crate) fn field(width: Width, reg: Reg) -> Place
-    ensures { place_of result ≡ spec.field machine_naming width reg }
+    ensures { as_place result ≡ spec.field machine_naming width reg }
 {
     match width {
         Width::One => match reg {
@@ -118,7 +118,7 @@ pub(crate) fn effective_address(cpu: &Cpu, at: Address) -> Option<u32>
 }
 
 fn memory_at(at: Option<u32>) -> Option<Location>
-    ensures { option_map location_of result ≡ option_map spec.InMemory at }
+    ensures { option_map as_location result ≡ option_map spec.InMemory at }
 {
     match at {
         None => None,
@@ -128,7 +128,7 @@ fn memory_at(at: Option<u32>) -> Option<Location>
 
 /// Where the operand of the rm field stands.
 pub(crate) fn rm_location(cpu: &Cpu, width: Width, rm: Rm) -> Option<Location>
-    ensures { option_map location_of result ≡ spec.location_of machine_naming (registers_of cpu.now.regs) width rm }
+    ensures { option_map as_location result ≡ spec.location_of machine_naming (registers_of cpu.now.regs) width rm }
 {
     match rm {
         Rm::Reg(reg) => Some(Location::Register(field(width, reg))),
@@ -138,7 +138,7 @@ pub(crate) fn rm_location(cpu: &Cpu, width: Width, rm: Rm) -> Option<Location>
 
 /// Where an operand that is read stands.
 pub(crate) fn source_location(cpu: &Cpu, width: Width, src: Src) -> Option<Location>
-    ensures { option_map location_of result ≡ spec.source_of machine_naming (registers_of cpu.now.regs) width src }
+    ensures { option_map as_location result ≡ spec.source_of machine_naming (registers_of cpu.now.regs) width src }
 {
     match src {
         Src::Reg(reg) => Some(Location::Register(field(width, reg))),

@@ -6,7 +6,7 @@ ghost use Rattle.x86_meaning.specs.Outcomes as outcomes;
 ghost use Rattle.x86_step.specs.Computed.{computation_of, way_of};
 ghost use Rattle.x86_step.specs.Finishing.{is_call};
 ghost use Rattle.x86_step.specs.Making.{PerformsOrStays};
-ghost use Rattle.x86_step.specs.Transferred.{field_of, operand_of};
+ghost use Rattle.x86_step.specs.Transferred.{as_field, operand_of};
 
 use crate::effect::{with_lowest, with_second};
 use crate::make::{make_flags, make_register, make_store};
@@ -30,7 +30,7 @@ fn perform_field(
     mem: &mut Pages,
 ) -> bool
     requires no_call { is_call (way_of way) ≡ false }
-    ensures performs { PerformsOrStays (field_of to ∷ []) (outcomes.computed (word ∷ []) flags (way_of way)) len result cpu.old (memory_in mem.old) cpu.new (memory_in mem.new) }
+    ensures performs { PerformsOrStays (as_field to ∷ []) (outcomes.computed (word ∷ []) flags (way_of way)) len result cpu.old (memory_in mem.old) cpu.new (memory_in mem.new) }
     ensures keeps { KeepsPages mem.old mem.new }
 {
     match to.place {

@@ -4,7 +4,7 @@ ghost use Rattle.std.specs.Option.{option_map};
 ghost use Rattle.x86_types.specs.Numbers.{size_of};
 ghost use Rattle.x86_meaning.specs.Operands as operands;
 ghost use Rattle.x86_meaning.specs.TransferShapes as spec;
-ghost use Rattle.x86_step.specs.Transferred.{field_of, location_of, operand_of, place_of, reads_of, transfer_of, writes_of};
+ghost use Rattle.x86_step.specs.Transferred.{as_field, as_location, operand_of, as_place, reads_of, transfer_of, writes_of};
 
 use crate::operand::{Location, Place, Size, size_of};
 use crate::operands::{Field, Fields, Operand, Reads, Transfer, Writes};
@@ -13,7 +13,7 @@ use x86_types::{AluOp, Count, Reg, Width, reg_number};
 /// An operand of a width.
 #[inline]
 pub(crate) fn operand(width: Width, location: Location) -> Operand
-    ensures { operand_of result ≡ operands.operand (size_of width) (location_of location) }
+    ensures { operand_of result ≡ operands.operand (size_of width) (as_location location) }
 {
     Operand {
         size: size_of(width),
@@ -24,7 +24,7 @@ pub(crate) fn operand(width: Width, location: Location) -> Operand
 // An operand in a register.
 #[inline]
 pub(crate) fn in_register(field: Field) -> Operand
-    ensures { operand_of result ≡ field_of field }
+    ensures { operand_of result ≡ as_field field }
 {
     Operand {
         size: field.size,
@@ -35,7 +35,7 @@ pub(crate) fn in_register(field: Field) -> Operand
 /// AL, AX or EAX.
 #[inline]
 pub(crate) fn accumulator(width: Width) -> Field
-    ensures { field_of result ≡ spec.accumulator width }
+    ensures { as_field result ≡ spec.accumulator width }
 {
     Field {
         size: size_of(width),
@@ -45,7 +45,7 @@ pub(crate) fn accumulator(width: Width) -> Field
 
 // AH, DX or EDX.
 pub(crate) fn upper_accumulator(width: Width) -> Field
-    ensures { field_of result ≡ spec.upper_accumulator width }
+    ensures { as_field result ≡ spec.upper_accumulator width }
 {
     match width {
         Width::One => Field {
@@ -94,20 +94,20 @@ pub(crate) fn written(reads: Reads, to: Operand) -> Transfer
 /// The second operand is moved to the first.
 #[inline]
 pub(crate) fn move_transfer(to_width: Width, width: Width, to: Location, from: Location) -> Transfer
-    ensures { transfer_of result ≡ spec.move_transfer (size_of to_width) (size_of width) (location_of to) (location_of from) }
+    ensures { transfer_of result ≡ spec.move_transfer (size_of to_width) (size_of width) (as_location to) (as_location from) }
 {
     written(Reads::One(operand(width, from)), operand(to_width, to))
 }
 
 pub(crate) fn combine_transfer(width: Width, to: Location, from: Location) -> Transfer
-    ensures { transfer_of result ≡ spec.combine_transfer (size_of width) (location_of to) (location_of from) }
+    ensures { transfer_of result ≡ spec.combine_transfer (size_of width) (as_location to) (as_location from) }
 {
     let to = operand(width, to);
     written(Reads::Two(to, operand(width, from)), to)
 }
 
 pub(crate) fn compare_transfer(width: Width, to: Location, from: Location) -> Transfer
-    ensures { transfer_of result ≡ spec.compare_transfer (size_of width) (location_of to) (location_of from) }
+    ensures { transfer_of result ≡ spec.compare_transfer (size_of width) (as_location to) (as_location from) }
 {
     Transfer {
         reads: Reads::Two(operand(width, to), operand(width, from)),
@@ -116,7 +116,7 @@ pub(crate) fn compare_transfer(width: Width, to: Location, from: Location) -> Tr
 }
 
 pub(crate) fn update_transfer(width: Width, to: Location) -> Transfer
-    ensures { transfer_of result ≡ spec.update_transfer (size_of width) (location_of to) }
+    ensures { transfer_of result ≡ spec.update_transfer (size_of width) (as_location to) }
 {
     let to = operand(width, to);
     written(Reads::One(to), to)
@@ -141,7 +141,7 @@ pub(crate) fn cancels(op: AluOp) -> bool
 
 #[inline]
 pub(crate) fn is_same_place(left: Place, right: Place) -> bool
-    ensures { result ≡ spec.is_same_register (place_of left) (place_of right) }
+    ensures { result ≡ spec.is_same_register (as_place left) (as_place right) }
 {
     match (left, right) {
         (Place::Lowest(left), Place::Lowest(right)) => reg_number(left) == reg_number(right),
@@ -152,7 +152,7 @@ pub(crate) fn is_same_place(left: Place, right: Place) -> bool
 
 #[inline]
 pub(crate) fn is_same_register(left: Location, right: Location) -> bool
-    ensures { result ≡ spec.is_same_register (location_of left) (location_of right) }
+    ensures { result ≡ spec.is_same_register (as_location left) (as_location right) }
 {
     match (left, right) {
         (Location::Register(left), Location::Register(right)) => is_same_place(left, right),
@@ -161,7 +161,7 @@ pub(crate) fn is_same_register(left: Location, right: Location) -> bool
 }
 
 pub(crate) fn alu_reads(op: AluOp, width: Width, to: Location, from: Location) -> Reads
-    ensures { reads_of result ≡ spec.alu_reads op (size_of width) (location_of to) (location_of from) }
+    ensures { reads_of result ≡ spec.alu_reads op (size_of width) (as_location to) (as_location from) }
 {
     if cancels(op) && is_same_register(to, from) {
         Reads::Two(constant(width, 0), constant(width, 0))
@@ -171,7 +171,7 @@ pub(crate) fn alu_reads(op: AluOp, width: Width, to: Location, from: Location) -
 }
 
 pub(crate) fn alu_writes(op: AluOp, width: Width, to: Location) -> Writes
-    ensures { writes_of result ≡ spec.alu_writes op (size_of width) (location_of to) }
+    ensures { writes_of result ≡ spec.alu_writes op (size_of width) (as_location to) }
 {
     match op {
         AluOp::Cmp => Writes::Fields(Fields::Zero),
@@ -180,7 +180,7 @@ pub(crate) fn alu_writes(op: AluOp, width: Width, to: Location) -> Writes
 }
 
 pub(crate) fn alu_transfer(op: AluOp, width: Width, to: Location, from: Location) -> Transfer
-    ensures { transfer_of result ≡ spec.alu_transfer op (size_of width) (location_of to) (location_of from) }
+    ensures { transfer_of result ≡ spec.alu_transfer op (size_of width) (as_location to) (as_location from) }
 {
     Transfer {
         reads: alu_reads(op, width, to, from),
@@ -189,7 +189,7 @@ pub(crate) fn alu_transfer(op: AluOp, width: Width, to: Location, from: Location
 }
 
 pub(crate) fn multiply_transfer(width: Width, from: Location) -> Transfer
-    ensures { transfer_of result ≡ spec.multiply_transfer width (location_of from) }
+    ensures { transfer_of result ≡ spec.multiply_transfer width (as_location from) }
 {
     let lower = accumulator(width);
     Transfer {
@@ -199,7 +199,7 @@ pub(crate) fn multiply_transfer(width: Width, from: Location) -> Transfer
 }
 
 pub(crate) fn divide_transfer(width: Width, from: Location) -> Transfer
-    ensures { transfer_of result ≡ spec.divide_transfer width (location_of from) }
+    ensures { transfer_of result ≡ spec.divide_transfer width (as_location from) }
 {
     let lower = accumulator(width);
     let upper = upper_accumulator(width);
@@ -210,7 +210,7 @@ pub(crate) fn divide_transfer(width: Width, from: Location) -> Transfer
 }
 
 pub(crate) fn multiply_by_transfer(width: Width, by: u32, to: Location, from: Location) -> Transfer
-    ensures { transfer_of result ≡ spec.multiply_by_transfer (size_of width) by (location_of to) (location_of from) }
+    ensures { transfer_of result ≡ spec.multiply_by_transfer (size_of width) by (as_location to) (as_location from) }
 {
     written(
         Reads::Two(operand(width, from), constant(width, by)),
@@ -219,14 +219,14 @@ pub(crate) fn multiply_by_transfer(width: Width, by: u32, to: Location, from: Lo
 }
 
 pub(crate) fn shift_transfer(width: Width, count: Count, to: Location) -> Transfer
-    ensures { transfer_of result ≡ spec.shift_transfer (size_of width) count (location_of to) }
+    ensures { transfer_of result ≡ spec.shift_transfer (size_of width) count (as_location to) }
 {
     let to = operand(width, to);
     written(Reads::Two(to, count_operand(count)), to)
 }
 
 pub(crate) fn double_shift_transfer(count: Count, to: Location, from: Location) -> Transfer
-    ensures { transfer_of result ≡ spec.double_shift_transfer count (location_of to) (location_of from) }
+    ensures { transfer_of result ≡ spec.double_shift_transfer count (as_location to) (as_location from) }
 {
     let to = operand(Width::Four, to);
     let from = operand(Width::Four, from);
@@ -234,7 +234,7 @@ pub(crate) fn double_shift_transfer(count: Count, to: Location, from: Location) 
 }
 
 pub(crate) fn exchange_transfer(width: Width, right: Place, left: Location) -> Transfer
-    ensures { transfer_of result ≡ spec.exchange_transfer (size_of width) (place_of right) (location_of left) }
+    ensures { transfer_of result ≡ spec.exchange_transfer (size_of width) (as_place right) (as_location left) }
 {
     let left = operand(width, left);
     let right = Field {
@@ -250,7 +250,7 @@ pub(crate) fn exchange_transfer(width: Width, right: Place, left: Location) -> T
 /// One byte is written.
 #[inline]
 pub(crate) fn set_transfer(to: Location) -> Transfer
-    ensures { transfer_of result ≡ spec.set_transfer 1 (location_of to) }
+    ensures { transfer_of result ≡ spec.set_transfer 1 (as_location to) }
 {
     written(Reads::Zero, operand(Width::One, to))
 }
@@ -258,7 +258,7 @@ pub(crate) fn set_transfer(to: Location) -> Transfer
 /// A word is read.
 #[inline]
 pub(crate) fn read_transfer(from: Location) -> Transfer
-    ensures { transfer_of result ≡ spec.read_transfer 4 (location_of from) }
+    ensures { transfer_of result ≡ spec.read_transfer 4 (as_location from) }
 {
     Transfer {
         reads: Reads::One(operand(Width::Four, from)),

@@ -6,7 +6,7 @@ ghost use Rattle.x86_types.specs.Numbers.{number_of_reg};
 ghost use Rattle.x86_meaning.specs.Registers as registers;
 ghost use Rattle.x86_meaning.specs.TransferShapes as spec;
 ghost use Rattle.x86_step.specs.Steps.{registers_of};
-ghost use Rattle.x86_step.specs.Transferred.{field_of, location_of, operand_of, transfer_of};
+ghost use Rattle.x86_step.specs.Transferred.{as_field, as_location, operand_of, transfer_of};
 
 use crate::operand::{Location, Place, Size, word_in};
 use crate::operands::{Field, Fields, Operand, Reads, Transfer, Writes};
@@ -34,7 +34,7 @@ pub(crate) fn down(at: u32) -> u32
 /// A whole register.
 #[inline]
 pub(crate) fn whole(reg: Reg) -> Field
-    ensures { field_of result ≡ spec.register 4 (number_of_reg reg) }
+    ensures { as_field result ≡ spec.register 4 (number_of_reg reg) }
 {
     Field {
         size: Size::Four,
@@ -87,7 +87,7 @@ pub(crate) fn push(at: Option<u32>) -> Option<Transfer>
 
 /// An operand is read, and the word below esp is written.
 pub(crate) fn push_of(from: Option<Location>, at: Option<u32>) -> Option<Transfer>
-    ensures { option_map transfer_of result ≡ spec.push_of (option_map location_of from) at }
+    ensures { option_map transfer_of result ≡ spec.push_of (option_map as_location from) at }
 {
     let esp = whole(Reg::Esp);
     match (from, at) {
@@ -115,7 +115,7 @@ pub(crate) fn pop(at: Option<u32>) -> Option<Transfer>
 
 /// The word at esp is read; esp is written, and then an operand.
 pub(crate) fn pop_to(to: Option<Location>, at: Option<u32>) -> Option<Transfer>
-    ensures { option_map transfer_of result ≡ spec.pop_to (option_map location_of to) at }
+    ensures { option_map transfer_of result ≡ spec.pop_to (option_map as_location to) at }
 {
     match (to, at) {
         (Some(to), Some(at)) => Some(Transfer {

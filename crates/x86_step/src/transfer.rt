@@ -7,7 +7,7 @@ ghost use Rattle.x86_meaning.specs.Registers.{machine_naming};
 ghost use Rattle.x86_meaning.specs.TransferShapes as shapes;
 ghost use Rattle.x86_meaning.specs.Transfers as spec;
 ghost use Rattle.x86_step.specs.Steps.{registers_of};
-ghost use Rattle.x86_step.specs.Transferred.{bytes_of, location_of, place_of, transfer_of};
+ghost use Rattle.x86_step.specs.Transferred.{bytes_in_size, as_location, as_place, transfer_of};
 
 use crate::operand::{
     Location, Place, Size, effective_address, field, rm_location, source_location, word_in,
@@ -24,20 +24,20 @@ use x86_values::known;
 /// Where a register field stands.
 #[inline]
 pub(crate) fn in_field(width: Width, reg: Reg) -> Location
-    ensures { location_of result ≡ operands.field machine_naming width reg }
+    ensures { as_location result ≡ operands.field machine_naming width reg }
 {
     Location::Register(field(width, reg))
 }
 
 // LEA: an address is moved as a number.
 fn lea(width: Width, to: Place, at: Option<u32>) -> Transfer
-    ensures { transfer_of result ≡ shapes.move_transfer (size_of width) (size_of width) (place_of to) (operands.Constant at) }
+    ensures { transfer_of result ≡ shapes.move_transfer (size_of width) (size_of width) (as_place to) (operands.Constant at) }
 {
     move_transfer(width, width, Location::Register(to), Location::Constant(at))
 }
 
 fn half(width: Width) -> Size
-    ensures { bytes_of result ≡ size_of width / 2 }
+    ensures { bytes_in_size result ≡ size_of width / 2 }
 {
     match width {
         Width::One => Size::Zero,

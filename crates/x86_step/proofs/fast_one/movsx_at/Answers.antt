@@ -5,7 +5,7 @@ use Rattle.x86_types.specs.declared.instr.Instr.TheVariants as instr
 use Rattle.x86_meaning.specs.Effect.{effect_of}
 use Rattle.x86_step.specs.Computed.{computation_of, values_of}
 use Rattle.x86_step.specs.Steps.{registers_of}
-use Rattle.x86_step.specs.Transferred.{location_of, operand_of}
+use Rattle.x86_step.specs.Transferred.{as_location, operand_of}
 use Rattle.x86_step.proofs.Made.{performs}
 use Rattle.x86_step.proofs.OneForms.{movsx_form}
 use Rattle.x86_step.proofs.fast_one.movsx_at.Goals as goal
@@ -17,4 +17,4 @@ returns-in-Some-clause-fast c =
     let m = memory_in a.mem.now in
     let k = computation_of c.extend_computed-made.result in
     performs c.step_laws.ensures (instr.Movsx a.wide a.width a.reg a.to) (operand_of c.field_operand.result ∷ []) k a.len c.perform.result d c.perform.new.cpu m (memory_in c.perform.new.mem) c.perform.ensures.performs
-    (ap (λ o. effect_of (o ∷ []) (registers_of d.regs) k) c.field_operand.ensures ∙ movsx_form a.wide a.width a.reg a.to (wrapped (d.eip + a.len)) d m (location_of a.to_at) (values_of c.in-Some.values) k c.requires c.in-Some.ensures (rw (c.size.ensures.size, c.size-in-Some.ensures.size) at c.extend_computed-made.ensures.exact))
+    (ap (λ o. effect_of (o ∷ []) (registers_of d.regs) k) c.field_operand.ensures ∙ movsx_form a.wide a.width a.reg a.to (wrapped (d.eip + a.len)) d m (as_location a.to_at) (values_of c.in-Some.values) k c.requires c.in-Some.ensures (rw (c.size.ensures.size, c.size-in-Some.ensures.size) at c.extend_computed-made.ensures.exact))
