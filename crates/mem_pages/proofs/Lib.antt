@@ -9,3 +9,5 @@ pub mod Shown
 pub mod Runs
 pub mod WithinPage
 pub mod LoadedWord
+pub mod StoredWord
+pub mod StoredThere

@@ -72,7 +72,7 @@ put_lifted d e at b g w h there places = lifted d e (at / 4096) g w (λ a o. con
 range_test : (a start end : ℕ) → start ≤ end → a / 4096 ≡ start / 4096 → (leb (start % 4096) (a % 4096) && ltb (a % 4096) (start % 4096 + (end - start))) ≡ (leb start a && ltb a end)
 range_test a start end l h = grind (arith, nat_tests)
 
-range_outside : (a start end : ℕ) → end ≤ 4096 * (start / 4096) + 4096 → a / 4096 ≢ start / 4096 → (leb start a && ltb a end) ≡ false
+pub range_outside : (a start end : ℕ) → end ≤ 4096 * (start / 4096) + 4096 → a / 4096 ≢ start / 4096 → (leb start a && ltb a end) ≡ false
 range_outside a start end l h = elim (cases_Bool (leb start a && ltb a end)) as (λ _. (leb start a && ltb a end) ≡ false) [
   | inl t ↦ let p = and_parts _ _ t in absurd (h (omega (arith, leb-true start a p.0, ltb-true a end p.1)))
   | inr f ↦ f

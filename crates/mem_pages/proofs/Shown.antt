@@ -32,7 +32,7 @@ nothing_in p h = λ i a. (ap (λ o. shown (ltb a p.lowest) (place_on o (a % 4096
 
 -- ---- directories with the same places
 -- the place at an address, of pages with this `lowest`
-at_lowest : (q : Pages) (low a : ℕ) → q.lowest ≡ low → memory_in q a ≡ shown (ltb a low) (contents q.directory a)
+pub at_lowest : (q : Pages) (low a : ℕ) → q.lowest ≡ low → memory_in q a ≡ shown (ltb a low) (contents q.directory a)
 at_lowest q low a e = at_place q a ∙ ap (λ l. shown (ltb a l) (contents q.directory a)) e
 
 pub same_places : (p q : Pages) → q.lowest ≡ p.lowest → ((a : ℕ) → contents q.directory a ≡ contents p.directory a) → memory_in q ≡ memory_in p
@@ -141,7 +141,7 @@ off_stack_with : (b : Byte) (o : Option Place) → ((p : Place) → o ≡ Some p
 off_stack_with b None h = refl
 off_stack_with b (Some p) h = ap (λ s. Some (record p { byte = cond s Unspecified b })) (h p refl)
 
-put_shown : (t u : Bool) (b : Byte) (o : Option Place) → (t ≡ true → u ≡ true → (p : Place) → o ≡ Some p → p.on_stack ≡ false) → shown u (cond t (with_byte b o) o) ≡ cond t (with_byte b (shown u o)) (shown u o)
+pub put_shown : (t u : Bool) (b : Byte) (o : Option Place) → (t ≡ true → u ≡ true → (p : Place) → o ≡ Some p → p.on_stack ≡ false) → shown u (cond t (with_byte b o) o) ≡ cond t (with_byte b (shown u o)) (shown u o)
 put_shown true true b o h = off_stack_with b o (h refl refl) ∙ ap (with_byte b) (sym (off_stack_same o (h refl refl)))
 put_shown true false b o h = refl
 put_shown false u b o h = refl

@@ -75,7 +75,7 @@ off_quiet : (b : Byte) (o : Option Place) → ((p : Place) → o ≡ Some p → 
 off_quiet b None h = refl
 off_quiet b (Some p) h = ap (λ s. not s || is_unspecified b) (h p refl)
 
-put_quiet : (t : Bool) (b : Byte) (o : Option Place) → (t ≡ true → (p : Place) → o ≡ Some p → p.on_stack ≡ false) → is_forgotten o ≡ true → is_forgotten (cond t (with_byte b o) o) ≡ true
+pub put_quiet : (t : Bool) (b : Byte) (o : Option Place) → (t ≡ true → (p : Place) → o ≡ Some p → p.on_stack ≡ false) → is_forgotten o ≡ true → is_forgotten (cond t (with_byte b o) o) ≡ true
 put_quiet true b o off h = off_quiet b o (off refl)
 put_quiet false b o off h = h
 

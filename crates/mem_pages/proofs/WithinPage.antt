@@ -39,7 +39,7 @@ pub same_loaded : (m n : Memory) (a b size : ℕ) → ((k : ℕ) → k < size �
 same_loaded m n a b size h = rw (same_allowed Load m n a b size h, same_bytes m n a b size h) refl
 
 -- ---- places that are read as they are kept
-plain_maps : (g : Page) (hidden : Bool) (at count k : ℕ) → is_plain g hidden at count ≡ true → at ≤ k → k < at + count → maps g k ≡ true
+pub plain_maps : (g : Page) (hidden : Bool) (at count k : ℕ) → is_plain g hidden at count ≡ true → at ≤ k → k < at + count → maps g k ≡ true
 plain_maps g hidden at count k h l m = grind (arith, nat_tests)
 
 plain_shows : (g : Page) (hidden : Bool) (at count k : ℕ) → is_plain g hidden at count ≡ true → at ≤ k → (is_unspecified g.unset && ltb k g.low) ≡ false

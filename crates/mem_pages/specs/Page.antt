@@ -1,11 +1,11 @@
 -- What a page holds.
-use Rattle.std.specs.Prelude.{◌≡◌, ℕ, ◌+◌, ◌/◌, ◌<◌, ◌&&◌, ◌||◌, Bool, true, false, not, cond, leb, ltb, length, slice_index_or, List, Option, Some, None}
+use Rattle.std.specs.Prelude.{◌≡◌, ℕ, ◌+◌, ◌-◌, ◌/◌, ◌<◌, ◌&&◌, ◌||◌, Bool, true, false, not, cond, leb, ltb, length, slice_index_or, List, Option, Some, None}
 use Rattle.std.specs.Option.{option_map}
 use Rattle.x86_values.specs.declared.byte.Byte.{Byte}
 use Rattle.x86_values.specs.declared.byte.Byte.TheVariants.{Unspecified}
 use Rattle.x86_values.specs.declared.word.Word.{Word}
 use Rattle.x86_values.specs.Words.{known_byte}
-use Rattle.memory.specs.Memory.{Place, Memory, AccessKind, Load, Store, allows, byte_of, forgotten}
+use Rattle.memory.specs.Memory.{Place, Memory, AccessKind, Load, Store, allows, byte_of, with_byte, forgotten}
 use Rattle.mem_pages.specs.declared.page.Page.{Page}
 use Rattle.mem_pages.specs.Regions.{is_unspecified}
 
@@ -36,6 +36,10 @@ pub record KeepsBytes (g h : Page) : Type 0 where
 -- a place, forgotten where it is hidden
 abbrev pub shown : Bool → Option Place → Option Place
 shown hidden o = cond hidden (forgotten o) o
+
+-- some bytes from an address on are others, where they are mapped
+unfoldable pub put_part : ℕ → List Byte → Memory → Memory
+put_part at bs m a = cond (leb at a && ltb a (at + length bs)) (with_byte (slice_index_or bs (a - at) Unspecified) (m a)) (m a)
 
 -- the byte of a place, where it is mapped
 abbrev pub seen : Option Place → Option Byte

@@ -184,7 +184,23 @@ impl Pages {
     }
 
     /// Stores the lowest `size` bytes of a word, 1, 2 or 4, from an address on. Addresses wrap at 2^32.
+    #[inline]
     pub fn store(&mut self, at: u32, size: u8, word: Word) -> Result<(), PageFault>
+        requires { IsSize size }
+        ensures stores { Stores at size word result self.old self.new }
+        ensures keeps { KeepsPages self.old self.new }
+    {
+        if PAGE < at % PAGE + size as u32 {
+            return self.store_each(at, size, word);
+        }
+        if self.store_part(at, size, word) {
+            return Ok(());
+        }
+        self.store_each(at, size, word)
+    }
+
+    /// The same, byte by byte.
+    fn store_each(&mut self, at: u32, size: u8, word: Word) -> Result<(), PageFault>
         requires { IsSize size }
         ensures stores { Stores at size word result self.old self.new }
         ensures keeps { KeepsPages self.old self.new }

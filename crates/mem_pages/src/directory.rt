@@ -33,6 +33,7 @@ impl Table {
     }
 
     /// The page with a number, from 0.
+    #[inline]
     fn page(&self, index: usize) -> Option<&Page>
         ensures { option_copied result ≡ slice_get self.now.pages.items index }
     {
@@ -51,6 +52,7 @@ impl Table {
     }
 
     /// The page with a number, to be changed.
+    #[inline]
     fn page_mut(&mut self, index: usize) -> Option<&mut Page>
         ensures* writes_back { sem 𝓛 (LendsPage self.entry index result) }
         ensures value { option_map (λ g. g.now) result ≡ slice_get self.old.pages.items index }
@@ -72,6 +74,7 @@ impl Directory {
     }
 
     /// The table with a number.
+    #[inline]
     fn table(&self, index: usize) -> Option<&Table>
         ensures { option_copied result ≡ slice_get self.now.tables.items index }
     {
@@ -79,6 +82,7 @@ impl Directory {
     }
 
     /// The table with a number, to be changed.
+    #[inline]
     fn table_mut(&mut self, index: usize) -> Option<&mut Table>
         ensures* writes_back { sem 𝓛 (LendsTable self.entry index result) }
         ensures value { option_map (λ t. t.now) result ≡ slice_get self.old.tables.items index }
@@ -87,6 +91,7 @@ impl Directory {
     }
 
     /// The page with a number.
+    #[inline]
     #[tactic(auto, unfolding(crate::specs::Directory::page_at), using(crate::proofs::Tables::pages_of_is))]
     pub fn page(&self, number: u32) -> Option<&Page>
         ensures { option_copied result ≡ page_at self.now number }
@@ -98,6 +103,7 @@ impl Directory {
     }
 
     /// The page with a number, to be changed.
+    #[inline]
     pub fn page_mut(&mut self, number: u32) -> Option<&mut Page>
         ensures* writes_back { sem 𝓛 (LendsPageAt self.entry number result) }
         ensures value { option_map (λ g. g.now) result ≡ page_at self.old number }

@@ -36,6 +36,14 @@ impl Exposed {
         }
     }
 
+    /// Whether a page is listed.
+    #[tactic(auto, unfolding(crate::specs::Exposed::lists), using(std::proofs::lemmas::Bool::Decides::nat_tests))]
+    pub fn has(&self, number: u32) -> bool
+        ensures { result ≡ lists self.now number }
+    {
+        self.numbers.contains(&number) || self.rest <= number
+    }
+
     /// Takes a number out that is below `end`, where there is one.
     pub fn take_below(&mut self, end: u32) -> Option<u32>
         ensures taken { IfSome result (λ n. TakesOut end n self.old self.new) }

@@ -1,13 +1,14 @@
 // One page of 4,096 addresses: the part of it that is mapped, and its bytes once they are kept.
-ghost use Rattle.std.specs.Prelude.{◌≡◌, ℕ, ◌+◌, ◌<◌, ◌≤◌, ◌&&◌, Bool, true, false, cond, leb, ltb, length, slice_index_or, OnOk, OnErr, IfSome, Option, Some, None};
+ghost use Rattle.std.specs.Prelude.{◌≡◌, ℕ, ◌+◌, ◌<◌, ◌≤◌, ◌&&◌, Bool, true, false, cond, leb, ltb, length, slice_index_or, take, OnOk, OnErr, IfSome, Option, Some, None};
 ghost use Rattle.std.specs.Option.{option_map};
 ghost use Rattle.x86_values.specs.declared.byte.Byte.{Byte};
 ghost use Rattle.x86_values.specs.declared.byte.Byte.TheVariants as byte;
-ghost use Rattle.memory.specs.Memory.{put};
+ghost use Rattle.memory.specs.Memory.{Store, allows, put};
 ghost use Rattle.mem_pages.specs.Regions.{unmapped, with_region, forget_between, is_unspecified};
 ghost use Rattle.mem_pages.specs.Accesses.{loaded};
 ghost use Rattle.x86_values.specs.Sizes.{IsSize};
-ghost use Rattle.mem_pages.specs.Page.{maps, place_in, kept_in, is_plain, shown, seen, KeepsBytes, ShowsBytes, Judges, kind_of_access};
+ghost use Rattle.x86_values.specs.Words.{word_list};
+ghost use Rattle.mem_pages.specs.Page.{maps, place_in, kept_in, is_plain, put_part, shown, seen, KeepsBytes, ShowsBytes, Judges, kind_of_access};
 
 use std::alloc::{AllocError, Global};
 use x86_values::{Byte, Word};
@@ -56,6 +57,7 @@ impl Page {
     }
 
     /// Whether its bytes are those of the stack.
+    #[inline]
     pub fn is_stack(&self) -> bool
         ensures { result ≡ is_unspecified self.now.unset }
     {
@@ -232,6 +234,49 @@ impl Page {
             b2: self.bytes[at + 2],
             b3: self.bytes[at + 3],
         })
+    }
+
+    /// Makes some bytes the lowest of a word, which are read as they are kept.
+    #[inline]
+    fn set_word(&mut self, at: u32, size: u8, word: Word)
+        requires size { IsSize size }
+        requires in_page { at + size ≤ 4096 }
+        requires plain { is_plain self.old false at size ≡ true }
+        ensures places { place_in self.new ≡ put_part at (take size (word_list word)) (place_in self.old) }
+        ensures keeps { (k : ℕ) → kept_in self.new k ≡ kept_in self.old k }
+    {
+        let at = at as usize;
+        self.bytes[at] = word.b0;
+        if size == 1 {
+            return;
+        }
+        self.bytes[at + 1] = word.b1;
+        if size == 2 {
+            return;
+        }
+        self.bytes[at + 2] = word.b2;
+        self.bytes[at + 3] = word.b3;
+    }
+
+    /// Makes some bytes the lowest of a word, where they can be written and are read as they are kept; else it changes nothing.
+    #[inline]
+    pub fn store(&mut self, at: u32, size: u8, word: Word, hidden: bool) -> bool
+        requires size { IsSize size }
+        requires in_page { at + size ≤ 4096 }
+        ensures places { result ≡ true → (k : ℕ) → place_in self.new k ≡ put_part at (take size (word_list word)) (place_in self.old) k }
+        ensures allowed { result ≡ true → (k : ℕ) → k < size → allows Store (place_in self.old (at + k)) ≡ true }
+        ensures off { result ≡ true → hidden ≡ true → is_unspecified self.old.unset ≡ false }
+        ensures same { result ≡ false → (k : ℕ) → place_in self.new k ≡ place_in self.old k }
+        ensures keeps { (k : ℕ) → kept_in self.new k ≡ kept_in self.old k }
+    {
+        if !self.can_write {
+            return false;
+        }
+        if !self.is_plain(at, size as u32, hidden) {
+            return false;
+        }
+        self.set_word(at, size, word);
+        true
     }
 
     /// The bytes of some places; none where they aren't kept, or where one of them may be hidden.

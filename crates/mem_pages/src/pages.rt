@@ -19,16 +19,18 @@ pub struct Pages {
 }
 
 impl Pages {
-    ghost use Rattle.std.specs.Prelude.{◌≡◌, ℕ, ◌+◌, ◌/◌, ◌%◌, ◌<◌, ◌≤◌, Bool, true, false, Some, None, OnOk, OnErr, IfSome};
+    ghost use Rattle.std.specs.Prelude.{◌≡◌, ℕ, ◌+◌, ◌/◌, ◌%◌, ◌<◌, ◌≤◌, Bool, true, false, Some, None, OnOk, OnErr, IfSome, take};
     ghost use Rattle.std.specs.Option.{option_map};
     ghost use Rattle.x86_values.specs.Sizes.{IsSize};
+    ghost use Rattle.x86_values.specs.Words.{word_list};
+    ghost use Rattle.mem_pages.specs.Exposed.{lists};
     ghost use Rattle.memory.specs.Memory as spec;
     ghost use Rattle.memory.specs.Memory.{Place, Load, allows};
     ghost use Rattle.mem_pages.specs.Regions.{unmapped, with_region, HasRoom, forget_between};
     ghost use Rattle.mem_pages.specs.Page.{seen, ShowsBytes, Judges, kind_of_access};
     ghost use Rattle.mem_pages.specs.Directory.{contents};
     ghost use Rattle.mem_pages.specs.Contents.{memory_in, is_kept, IsReady, IsListed};
-    ghost use Rattle.mem_pages.specs.Accesses.{byte_read, loaded, KeepsPages, SameMemory, Writes};
+    ghost use Rattle.mem_pages.specs.Accesses.{IsStored, byte_read, loaded, KeepsPages, SameMemory, Writes};
 
     /// No address is mapped.
     pub fn new(alloc: Global) -> Pages
@@ -144,6 +146,28 @@ impl Pages {
     {
         self.ready(at);
         self.directory.put(at, byte);
+    }
+
+    /// Whether a byte of the stack counts as unspecified there, or its page may not be listed.
+    #[inline]
+    fn hides(&self, at: u32) -> bool
+        ensures low { result ≡ false → self.now.lowest ≤ at }
+        ensures listed { result ≡ false → lists self.now.exposed (at / 4096) ≡ true }
+    {
+        at < self.lowest || !self.exposed.has(at / PAGE)
+    }
+
+    /// Makes some bytes of a page the lowest of a word, where nothing else has to change; or changes nothing.
+    #[inline]
+    pub(crate) fn store_part(&mut self, at: u32, size: u8, word: Word) -> bool
+        requires size { IsSize size }
+        requires in_page { at % 4096 + size ≤ 4096 }
+        ensures stored { result ≡ true → IsStored at (take size (word_list word)) self.old self.new }
+        ensures same { result ≡ false → SameMemory self.old self.new }
+        ensures keeps { KeepsPages self.old self.new }
+    {
+        let hidden = self.hides(at);
+        self.directory.store(at, size, word, hidden)
     }
 
     /// Keeps the page of an address.

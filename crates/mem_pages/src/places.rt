@@ -1,10 +1,11 @@
 // The places of a directory, by their addresses.
-ghost use Rattle.std.specs.Prelude.{◌≡◌, ℕ, ◌+◌, ◌*◌, ◌/◌, ◌%◌, ◌<◌, ◌≤◌, Bool, true, false, OnOk, OnErr, IfSome, Option, Some, None};
+ghost use Rattle.std.specs.Prelude.{◌≡◌, ℕ, ◌+◌, ◌*◌, ◌/◌, ◌%◌, ◌<◌, ◌≤◌, Bool, true, false, OnOk, OnErr, IfSome, take, Option, Some, None};
 ghost use Rattle.std.specs.Option.{option_map, is_some};
-ghost use Rattle.memory.specs.Memory.{Load, put, allows};
+ghost use Rattle.memory.specs.Memory.{Load, Store, put, allows};
 ghost use Rattle.mem_pages.specs.Regions.{with_region, forget_between};
-ghost use Rattle.mem_pages.specs.Page.{shown, seen, IsOffStack, ShowsBytes, Judges, kind_of_access};
+ghost use Rattle.mem_pages.specs.Page.{put_part, shown, seen, IsOffStack, ShowsBytes, Judges, kind_of_access};
 ghost use Rattle.x86_values.specs.Sizes.{IsSize};
+ghost use Rattle.x86_values.specs.Words.{word_list};
 ghost use Rattle.mem_pages.specs.Accesses.{loaded};
 ghost use Rattle.mem_pages.specs.Directory.{page_at, contents, keeps, KeepsPlaces, HasGrown};
 
@@ -104,6 +105,24 @@ impl Directory {
         match self.page_mut(at / PAGE) {
             Some(page) => page.put(at % PAGE, byte),
             None => (),
+        }
+    }
+
+    /// Makes some bytes of a page the lowest of a word, where they can be written and are read as they are kept, on the stack not where
+    /// they are hidden; else it changes nothing.
+    #[inline]
+    pub fn store(&mut self, at: u32, size: u8, word: Word, hidden: bool) -> bool
+        requires size { IsSize size }
+        requires in_page { at % 4096 + size ≤ 4096 }
+        ensures places { result ≡ true → (a : ℕ) → contents self.new a ≡ put_part at (take size (word_list word)) (contents self.old) a }
+        ensures allowed { result ≡ true → (k : ℕ) → k < size → allows Store (contents self.old (at + k)) ≡ true }
+        ensures off { result ≡ true → hidden ≡ true → IsOffStack at (contents self.old) }
+        ensures same { result ≡ false → (a : ℕ) → contents self.new a ≡ contents self.old a }
+        ensures keeps { KeepsPlaces self.old self.new }
+    {
+        match self.page_mut(at / PAGE) {
+            Some(page) => page.store(at % PAGE, size, word, hidden),
+            None => false,
         }
     }
 

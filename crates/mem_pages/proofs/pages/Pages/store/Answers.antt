@@ -1,6 +1,5 @@
-use Rattle.std.proofs.Common.{sym, ◌∙◌}
 use Rattle.mem_pages.proofs.pages.Pages.store.Goals as goal
-use Rattle.mem_pages.proofs.Runs.{kept_range, take_short}
+use Rattle.mem_pages.proofs.StoredThere.{stores_after}
 
-pub put_each-requires-clause-kept : goal.put_each-requires-clause-kept
-put_each-requires-clause-kept c = kept_range c.keep_range.result c.args.at _ c.args.size c.args.self.now c.keep_range.new.self (cc) (take_short c.args.size _) (sym c.allows.ensures ∙ c.if-not-allows.false) c.keep_range.ensures.kept
+pub returns-clause-stores : goal.returns-clause-stores
+returns-clause-stores c = stores_after c.args.at c.args.size c.args.word c.store_each-2.result c.args.self.now c.store_part.new.self c.store_each-2.new.self (c.store_part.ensures.same c.if-store_part.false) c.store_part.ensures.keeps c.store_each-2.ensures.stores
