@@ -11,6 +11,7 @@ use sw_host::MemoryHost;
 use sw_top::{End, status};
 
 /// A run of a plain file with this text: the input, what is written to descriptor 1, and the end.
+#[derive(Drop)]
 struct Run<'a> {
     name: &'a str,
     text: &'a [u8],
