@@ -1,10 +1,10 @@
 -- What adding and taking out come to for the pages that are listed.
-use Rattle.std.proofs.Common.{◌≡◌, ◌≢◌, ◌↔◌, ℕ, ◌+◌, ◌-◌, ◌<◌, ◌≤◌, ◌||◌, Bool, true, false, cond, leb, List, [], ◌∷◌, length, is_some, IsTrue, Option, Some, None, arith, refl, sym, ◌∙◌, ap, inl, inr}
-use Rattle.std.specs.Option.{IfSome, IsSome}
+use Rattle.std.proofs.Common.{◌≡◌, ◌≢◌, ℕ, ◌+◌, ◌<◌, ◌≤◌, ◌||◌, Bool, true, false, cond, leb, List, [], ◌∷◌, length, is_some, IsTrue, Option, Some, None, arith, refl, ap, inl, inr}
+use Rattle.std.specs.Option.{IfSome}
 use Rattle.std.specs.List.{list_any}
-use Rattle.std.specs.Ordering.{nat_cmp, is_gt}
+use Rattle.std.specs.Ordering.{nat_cmp}
 use Rattle.std.specs.BTreeMap.{is_at}
-use Rattle.std.specs.BTreeSet.{BTreeSet, contains, btree_set_len, IsUnchanged, IsLowerBound, Updates}
+use Rattle.std.specs.BTreeSet.{BTreeSet, contains, btree_set_len, IsLowerBound, Updates}
 use Rattle.std.proofs.lemmas.Bool.{cases_Bool, cases_lt, false≢true}
 use Rattle.std.proofs.lemmas.Bool.Decides.{nat_tests}
 use Rattle.std.proofs.lemmas.Map.Keys.{le_from_not_gt}

@@ -1,10 +1,10 @@
 -- The pages that are forgotten whole, and what stays quiet.
-use Rattle.std.proofs.Common.{◌≡◌, ◌≢◌, ℕ, ◌+◌, ◌*◌, ◌/◌, ◌%◌, ◌<◌, ◌≤◌, ◌==◌, ◌&&◌, ◌||◌, Bool, true, false, not, cond, leb, ltb, Option, Some, None, arith, refl, sym, ◌∙◌, ap, inl, inr}
-use Rattle.std.proofs.lemmas.Bool.{cases_Bool, cases_eq, cases_lt, cond-true, cond-false, eqb-true, false≢true}
+use Rattle.std.proofs.Common.{◌≡◌, ℕ, ◌+◌, ◌*◌, ◌/◌, ◌%◌, ◌<◌, ◌≤◌, ◌==◌, ◌&&◌, ◌||◌, Bool, true, false, not, cond, leb, ltb, Option, Some, None, arith, refl, sym, ◌∙◌, ap, inl, inr}
+use Rattle.std.proofs.lemmas.Bool.{cases_eq, cases_lt, cond-true, cond-false, eqb-true, false≢true}
 use Rattle.std.proofs.lemmas.Bool.Decides.{nat_tests}
 use Rattle.x86_values.specs.declared.byte.Byte.{Byte}
 use Rattle.x86_values.specs.declared.byte.Byte.TheVariants.{Known, Unspecified}
-use Rattle.memory.specs.Memory.{Place, Memory, with_byte, put, forgotten}
+use Rattle.memory.specs.Memory.{Place, with_byte, put, forgotten}
 use Rattle.mem_pages.specs.declared.exposed.Exposed.{Exposed}
 use Rattle.mem_pages.specs.declared.directory.Directory.{Directory}
 use Rattle.mem_pages.specs.Regions.{is_unspecified, region_place, with_region, forget_between}
