@@ -1,9 +1,9 @@
 -- A word that is loaded from one page, in the directory and in the memory.
-use Rattle.std.proofs.Common.{◌≡◌, ℕ, ◌+◌, ◌/◌, ◌%◌, ◌^◌, ◌<◌, ◌≤◌, Bool, true, false, cond, ltb, Option, Some, None, arith, refl, sym, ◌∙◌, ap, inl, inr}
+use Rattle.std.proofs.Common.{◌≡◌, ℕ, ◌+◌, ◌/◌, ◌%◌, ◌^◌, ◌<◌, ◌≤◌, Bool, true, false, ltb, Option, Some, None, arith, refl, ◌∙◌}
 use Rattle.std.specs.Option.{IfSome}
-use Rattle.std.proofs.lemmas.Bool.{cases_Bool, ltb-true, lt-ltb, false≢true}
+use Rattle.std.proofs.lemmas.Bool.{ltb-true, lt-ltb}
 use Rattle.x86_values.specs.declared.word.Word.{Word}
-use Rattle.memory.specs.Memory.{Place, Memory, forgotten, wrapped}
+use Rattle.memory.specs.Memory.{Place, wrapped}
 use Rattle.mem_pages.specs.declared.page.Page.{Page}
 use Rattle.mem_pages.specs.declared.directory.Directory.{Directory}
 use Rattle.mem_pages.specs.declared.pages.Pages.{Pages}

@@ -1,5 +1,5 @@
 -- A word that was stored in one page, in the directory and in the memory.
-use Rattle.std.proofs.Common.{◌≡◌, ◌≢◌, ℕ, ◌+◌, ◌-◌, ◌*◌, ◌/◌, ◌%◌, ◌^◌, ◌<◌, ◌≤◌, ◌==◌, ◌&&◌, ◌||◌, Bool, true, false, not, cond, leb, ltb, List, length, take, get_or, Option, Some, None, Result, Ok, Err, arith, refl, sym, ◌∙◌, ap, inl, inr}
+use Rattle.std.proofs.Common.{◌≡◌, ℕ, ◌+◌, ◌-◌, ◌/◌, ◌%◌, ◌^◌, ◌<◌, ◌≤◌, ◌==◌, ◌&&◌, Bool, true, false, cond, leb, ltb, List, length, take, get_or, Option, Some, Result, Ok, Err, arith, refl, sym, ◌∙◌, ap, inl, inr}
 use Rattle.std.proofs.lemmas.Bool.{cases_Bool, cond-false, ltb-true, leb-true, and_parts, false≢true, false_from_ne_true}
 use Rattle.std.proofs.lemmas.Bool.Decides.{nat_tests}
 use Rattle.x86_values.specs.declared.byte.Byte.{Byte}
@@ -17,11 +17,11 @@ use Rattle.mem_pages.specs.declared.fault.PageFault.TheVariants as fault
 use Rattle.mem_pages.specs.Exposed.{lists, is_forgotten, IsQuiet}
 use Rattle.mem_pages.specs.Page.{place_in, put_part, IsOffStack}
 use Rattle.mem_pages.specs.Directory.{page_at, contents, IsWithPage}
-use Rattle.mem_pages.specs.Contents.{memory_in, is_kept, IsReady}
+use Rattle.mem_pages.specs.Contents.{memory_in, IsReady}
 use Rattle.mem_pages.specs.Accesses.{KeepsPages, SameMemory, IsStored, IsNotAllKept, Stores}
 use Rattle.mem_pages.proofs.Lifting.{lifted, range_outside, in_page}
 use Rattle.mem_pages.proofs.Swept.{put_quiet, quiet_places}
-use Rattle.mem_pages.proofs.Shown.{at_lowest, put_shown, allowed_in, keeps_then}
+use Rattle.mem_pages.proofs.Shown.{at_lowest, put_shown, allowed_in}
 use Rattle.mem_pages.proofs.Runs.{allows_rest, none_left}
 use Rattle.mem_pages.proofs.StoredWord.{all_as_part}
 

@@ -1,19 +1,17 @@
 -- A word that is stored in one page: its bytes one after another, in the page, in the directory and in the memory.
-use Rattle.std.proofs.Common.{◌≡◌, ◌≢◌, ℕ, zero, suc, ◌+◌, ◌-◌, ◌*◌, ◌/◌, ◌%◌, ◌^◌, ◌<◌, ◌≤◌, ◌==◌, ◌&&◌, ◌||◌, Bool, true, false, not, cond, leb, ltb, List, [], ◌∷◌, length, take, get_or, Option, Some, None, arith, refl, sym, ◌∙◌, ap, inl, inr}
-use Rattle.std.specs.declared.vec.Vec.{Vec}
-use Rattle.std.specs.declared.alloc.Global.{Global}
+use Rattle.std.proofs.Common.{◌≡◌, ◌≢◌, ℕ, suc, ◌+◌, ◌-◌, ◌<◌, ◌≤◌, ◌==◌, ◌&&◌, Bool, true, false, cond, leb, ltb, List, [], ◌∷◌, length, take, get_or, Option, Some, None, arith, refl, sym, ◌∙◌, ap, inl, inr}
 use Rattle.std.specs.Vec.{with_item}
 use Rattle.std.proofs.Math.ListN.{length-set}
-use Rattle.std.proofs.lemmas.Bool.{cases_Bool, cases_eq, cases_lt, cond-true, cond-false, eq-eqb, ne_eqb, ltb-true, lt-ltb, leb-true, and_parts, false≢true}
+use Rattle.std.proofs.lemmas.Bool.{cases_eq, cases_lt, cond-true, cond-false, eq-eqb, ne_eqb, leb-true, and_parts}
 use Rattle.std.proofs.lemmas.Bool.Decides.{nat_tests}
 use Rattle.x86_values.specs.declared.byte.Byte.{Byte}
-use Rattle.x86_values.specs.declared.byte.Byte.TheVariants.{Known, Unspecified}
+use Rattle.x86_values.specs.declared.byte.Byte.TheVariants.{Unspecified}
 use Rattle.x86_values.specs.declared.word.Word.{Word}
 use Rattle.x86_values.specs.Words.{word_list}
-use Rattle.memory.specs.Memory.{Place, Memory, AccessKind, Load, Store, allows, allows_all, with_byte, put, put_all, wrapped}
+use Rattle.memory.specs.Memory.{Place, Memory, Store, allows, with_byte, put, put_all, wrapped}
 use Rattle.mem_pages.specs.declared.page.Page.{Page}
 use Rattle.mem_pages.specs.Regions.{is_unspecified}
-use Rattle.mem_pages.specs.Page.{maps, byte_in, place_in, kept_in, is_plain, put_part}
+use Rattle.mem_pages.specs.Page.{byte_in, place_in, kept_in, is_plain, put_part}
 use Rattle.mem_pages.proofs.PageSteps.{place_of, puts, same_kept}
 use Rattle.mem_pages.proofs.WithinPage.{plain_maps, plain_len}
 

@@ -1,12 +1,11 @@
 -- Words that are loaded from one page: the bytes that stand in it, and what they are in the memory.
-use Rattle.std.proofs.Common.{◌≡◌, ℕ, zero, suc, ◌+◌, ◌/◌, ◌%◌, ◌^◌, ◌<◌, ◌≤◌, ◌&&◌, ◌||◌, Bool, true, false, not, cond, leb, ltb, length, get_or, Option, Some, None, arith, refl, sym, ◌∙◌, ap}
-use Rattle.std.proofs.lemmas.Bool.{cond-false, ltb-true, lt-ltb}
+use Rattle.std.proofs.Common.{◌≡◌, ℕ, zero, suc, ◌+◌, ◌<◌, ◌≤◌, ◌&&◌, Bool, true, false, cond, ltb, length, get_or, Some, None, arith, refl, sym, ◌∙◌, ap}
+use Rattle.std.proofs.lemmas.Bool.{cond-false}
 use Rattle.std.proofs.lemmas.List.{get_or_default}
 use Rattle.std.proofs.lemmas.Bool.Decides.{nat_tests}
 use Rattle.x86_values.specs.declared.byte.Byte.{Byte}
 use Rattle.x86_values.specs.declared.byte.Byte.TheVariants.{Known}
-use Rattle.x86_values.specs.declared.word.Word.{Word}
-use Rattle.memory.specs.Memory.{Place, Memory, AccessKind, Load, allows, allows_all, byte_of, bytes_at, wrapped}
+use Rattle.memory.specs.Memory.{Memory, AccessKind, Load, allows, allows_all, byte_of, bytes_at, wrapped}
 use Rattle.mem_pages.specs.declared.page.Page.{Page}
 use Rattle.mem_pages.specs.Regions.{is_unspecified}
 use Rattle.mem_pages.specs.Page.{maps, byte_in, place_in, is_plain, seen}

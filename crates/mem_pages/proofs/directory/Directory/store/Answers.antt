@@ -1,4 +1,4 @@
-use Rattle.std.proofs.Common.{arith, ◌/◌, ◌%◌, ◌+◌, ◌≤◌, ◌∙◌, length, take, refl}
+use Rattle.std.proofs.Common.{arith, ◌/◌, ◌%◌, ◌∙◌, take, refl}
 use Rattle.x86_values.specs.Words.{word_list}
 use Rattle.mem_pages.proofs.directory.Directory.store.Goals as goal
 use Rattle.mem_pages.proofs.Lifting.{holds, lifted, keeps_lifted, contents_same_page, same_pages_keep, off_stack_there}
