@@ -12,7 +12,7 @@ returns-in-Ok-run-clause-performs g c =
     let running : Running = c.args.running.now in
     tells_then _ _ _ _ _ _ c.in-Ok.ensures.loads c.in-Ok-run.ensures.runs (λ a m b p q. ran c.run_laws.ensures running c.in-Ok.image c.in-Ok-start_machine.machine c.run.new.self c.in-Ok-start_machine.ensures a m b p.1 c.in-Ok-run.end p.0 q)
 
-pub returns-in-Err-run-clause-performs : goal.returns-in-Err-run-clause-performs
-returns-in-Err-run-clause-performs g c =
+pub returns-clause-performs : goal.returns-clause-performs
+returns-clause-performs g c =
     let running : Running = c.args.running.now in
     tells_then _ _ _ _ _ _ c.in-Ok.ensures.loads c.in-Err-run.ensures.runs (λ a m b p q. in_run (stopped c.run_laws.ensures running c.in-Ok.image c.in-Ok-start_machine.machine c.run.new.self c.in-Ok-start_machine.ensures a m b p.1 c.in-Err-run.field-0 p.0 q))
