@@ -63,7 +63,8 @@ check "a number with a leading zero: 125" runs 125 "sw: usage" "" run-steps 07 e
 check "a number past the greatest: 125" runs 125 "sw: usage" "" run-steps 4000000001 exit7
 check "the greatest number" runs 7 "" "" run-steps 4000000000 exit7
 check "no step" runs 119 "sw: steps spent" "" run-steps 0 exit7
-check "words that fill more than the stack: 125" runs 125 "sw: usage" "" run exit7 "$(head -c 131000 /dev/zero | tr '\0' a)"
+check "words that nearly fill the stack" runs 7 "" "" run exit7 "$(head -c 131000 /dev/zero | tr '\0' a)"
+check "words that fill more than the stack: 125" runs 125 "sw: usage" "" run exit7 "$(head -c 131060 /dev/zero | tr '\0' a)"
 
 flags="-m32 -O2 -march=i686 -mno-sse -fno-pic -fno-pie -no-pie -static -nostdlib -ffreestanding -fcf-protection=none
 -fno-stack-protector -fno-asynchronous-unwind-tables -Wl,--build-id=none"
