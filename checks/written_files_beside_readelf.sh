@@ -79,7 +79,7 @@ for name in echo_byte exit7 hello jumps other_call; do
     check "$name: the file is no larger than its pages" is_no_larger "$name.new"
 done
 
-chmod +x exit7 exit7.new
+chmod +x exit7 ./*.new
 if ends_with exit7 7; then
     check "exit7: the new file ends with 7" ends_with exit7.new 7
 else
