@@ -244,7 +244,15 @@ static int is_last_iteration(void) {
     return !strncmp(FORMS[state[0]].name, "Rep ", 4) && !memcmp(state + 20, &one, 4) && !memcmp(step + 4, &at, 4) && !memcmp(made + 4, &behind, 4);
 }
 
+// A scan that finds no bit leaves its target unspecified, and where that is esp the stated machine claims nothing more.
+static int is_unspecified_esp(void) {
+    return step[0] == UNSPECIFIED && made[0] == NEXT && made[1] & 4 && !strncmp(FORMS[state[0]].name, "Bs", 2) && strcmp(FORMS[state[0]].name, "Bswap");
+}
+
 static const char *difference(void) {
+    if (is_unspecified_esp()) {
+        return 0;
+    }
     if (step[0] != made[0]) {
         return "the end";
     }
