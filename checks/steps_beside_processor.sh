@@ -10,7 +10,7 @@ needs gcc
 count=${1:-200000}
 folder=$(mktemp -d) || exit 1
 trap 'rm -rf "$folder"' EXIT
-if ! gcc -m32 -O1 -o "$folder/on_processor" "$top/checks/steps_on_processor.c" 2>"$folder/said"; then
+if ! gcc -m32 -O1 -static -Wl,-Ttext-segment=0x60000000 -o "$folder/on_processor" "$top/checks/steps_on_processor.c" 2>"$folder/said"; then
     echo "skipped  gcc -m32 compiles no program (the package gcc-multilib): $(tail -n 1 "$folder/said")"
     exit 3
 fi

@@ -295,10 +295,30 @@ static void load_next(ucontext_t *context) {
     context->uc_mcontext.gregs[REG_EIP] = CODE;
 }
 
+// The stack that the process began with, which isn't used once the steps begin: a step that has to fault must not find it.
+static uintptr_t stack_start, stack_end;
+
+static void find_stack(void) {
+    FILE *maps = fopen("/proc/self/maps", "r");
+    char line[512];
+    unsigned long start, end;
+    while (maps && fgets(line, sizeof line, maps)) {
+        if (strstr(line, "[stack]") && sscanf(line, "%lx-%lx", &start, &end) == 2) {
+            stack_start = start;
+            stack_end = end;
+        }
+    }
+    if (maps) {
+        fclose(maps);
+    }
+}
+
 static void on_signal(int number, siginfo_t *info, void *opaque) {
     ucontext_t *context = opaque;
     (void)info;
-    if (number != SIGUSR1) {
+    if (number == SIGUSR1) {
+        munmap((void *)stack_start, stack_end - stack_start);
+    } else {
         memset(made, 0, RECORD);
         made[0] = number == SIGTRAP ? NEXT : number == SIGSEGV ? MEMORY_FAULT : number == SIGFPE ? DIVIDE_FAULT : UNDECODED;
         uint32_t eip = context->uc_mcontext.gregs[REG_EIP], flags = context->uc_mcontext.gregs[REG_EFL];
@@ -338,12 +358,13 @@ static int compare(const char *from, const char *with) {
     }
     mapped(DATA, 2 * PAGE, PROT_READ | PROT_WRITE);
     mapped(CODE & -PAGE, PAGE, PROT_READ | PROT_WRITE | PROT_EXEC);
-    stack_t stack = {.ss_sp = mapped(0x40000000, 16 * PAGE, PROT_READ | PROT_WRITE), .ss_size = 16 * PAGE};
+    stack_t stack = {.ss_sp = mapped(0x47135000, 16 * PAGE, PROT_READ | PROT_WRITE), .ss_size = 16 * PAGE};
     sigaltstack(&stack, 0);
     struct sigaction action = {.sa_sigaction = on_signal, .sa_flags = SA_SIGINFO | SA_ONSTACK};
     for (unsigned i = 0; i < 6; i++) {
         sigaction((int[]){SIGUSR1, SIGTRAP, SIGSEGV, SIGFPE, SIGILL, SIGBUS}[i], &action, 0);
     }
+    find_stack();
     raise(SIGUSR1);
     return 1;
 }
