@@ -3,8 +3,8 @@
 
 Compiles each program of bench/programs by gcc -m32, without a library, and prints how many steps a second the stated machine makes of it
 (from a run of 20 million steps, less one of no step), and how long the whole program takes natively, under qemu-i386 where that is found, and
-by `run`. What they print has to be the same. Two programs more show that a step costs the same where esp moves far and where the file has
-a thousand segments. The status is 0 where each program makes at least 20 million steps a second and those two cost at most twice as much a step
+by `run`. What they print has to be the same. Four programs more show that a step costs the same where esp moves far, also within a page, and where the file has
+a thousand segments, one of which runs or all. The status is 0 where each program makes at least 20 million steps a second and those four cost at most twice as much a step
 as the plain loop, 1 where one doesn't, and 3 where nothing was measured, since the program, gcc or a system that runs i386 files isn't there.
 """
 
@@ -51,6 +51,20 @@ def file_of(code, segments, path):
     return path
 
 
+def chain_of(count, path):
+    """Writes an executable: so many segments with code, 65,536 addresses apart, each of which jumps to the next one, and the last to the first."""
+    offset = -(-(52 + 32 * count) // 4096) * 4096
+    headers, code = b"", b""
+    for place in range(count):
+        start, target = 0x10000000 + 0x10000 * place, 0x10000000 + 0x10000 * ((place + 1) % count)
+        headers += struct.pack("<8I", 1, offset + 4096 * place, start, start, 5, 5, 5, 4096)
+        code += (b"\xE9" + struct.pack("<i", target - start - 5)).ljust(4096, b"\0")
+    head = b"\x7fELF\x01\x01\x01" + b"\0" * 9 + struct.pack("<HHIIIIIHHHHHH", 2, 3, 1, 0x10000000, 52, 0, 0, 52, 32, count, 0, 0, 0)
+    with open(path, "wb") as file:
+        file.write((head + headers).ljust(offset, b"\0") + code)
+    return path
+
+
 def steps_a_second(program, path):
     """From a run that is cut, less one of no step."""
     none = best_time([program, "run-steps", "0", path], 3, SPENT)
@@ -86,8 +100,16 @@ def main():
         far = b"\x81\xEC\0\0\x60\0\x50\x81\xC4\x04\0\x60\0\xEB\xF1"
         plain = steps_a_second(program, file_of(loop, 0, os.path.join(folder, "plain")))
         near = steps_a_second(program, file_of(far.replace(b"\0\x60\0", b"\x10\0\0"), 0, os.path.join(folder, "near")))
-        for what, base, code, segments in (("esp moves by 6 MiB", near, far, 0), ("a thousand segments", plain, loop, 1000)):
-            rate = steps_a_second(program, file_of(code, segments, os.path.join(folder, "file")))
+        within = far.replace(b"\0\0\x60\0", b"\xB8\x0B\0\0").replace(b"\x04\0\x60\0", b"\xBC\x0B\0\0")
+        path = os.path.join(folder, "file")
+        one = steps_a_second(program, chain_of(1, path))
+        for what, base, write in (
+            ("esp moves by 6 MiB", near, lambda: file_of(far, 0, path)),
+            ("esp moves by 3,000, within a page", near, lambda: file_of(within, 0, path)),
+            ("a thousand segments", plain, lambda: file_of(loop, 1000, path)),
+            ("a thousand segments in which it runs", one, lambda: chain_of(1000, path)),
+        ):
+            rate = steps_a_second(program, write())
             print(f"{what}: {rate / 1e6:.1f} million steps a second, {base / rate:.2f} times the time of a step of the plain one")
             failed = failed or base > 2 * rate
     print("too slow" if failed else "ok")

@@ -33,13 +33,14 @@ def timed_text(paths):
     return found * times
 
 
-def best_time(command, calls, wanted=0):
-    """The least time of some calls that all end with the wanted status."""
+def best_time(command, calls, wanted=0, given=os.devnull):
+    """The least time of some calls that all end with the wanted status. The file `given` is their standard input."""
     times = []
     for _ in range(calls):
-        start = time.perf_counter()
-        status = subprocess.run(command, stdout=subprocess.DEVNULL, stderr=subprocess.DEVNULL, check=False).returncode
-        times.append(time.perf_counter() - start)
+        with open(given, "rb") as file:
+            start = time.perf_counter()
+            status = subprocess.run(command, stdin=file, stdout=subprocess.DEVNULL, stderr=subprocess.DEVNULL, check=False).returncode
+            times.append(time.perf_counter() - start)
         if status != wanted:
             sys.exit(f"{' '.join(command)}: status {status} instead of {wanted}")
     return min(times)

@@ -39,6 +39,36 @@ pub fn file_of(alloc: Global, text: &[u8]) -> Result<Vec<u8>, AllocError>
     Ok(file)
 }
 
+// The headers of a file as a linker lays it out: its own headers, the code at 0x08049000, where it begins, a constant, data
+// with room behind them, and the stack, which can't be run (PT_GNU_STACK, 0x6474E551).
+const LINKED_HEADERS: [u8; 212] = [
+    0x7F, 0x45, 0x4C, 0x46, 1, 1, 1, 0, 0, 0, 0, 0, 0, 0, 0, 0, 2, 0, 3, 0, 1, 0, 0, 0, 0x00, 0x90,
+    0x04, 0x08, 52, 0, 0, 0, 0, 0, 0, 0, 0, 0, 0, 0, 52, 0, 32, 0, 5, 0, 0, 0, 0, 0, 0, 0, // file
+    1, 0, 0, 0, 0, 0, 0, 0, 0, 0x80, 4, 8, 0, 0x80, 4, 8, 0xD4, 0, 0, 0, 0xD4, 0, 0, 0, 4, 0, 0, 0,
+    0, 0x10, 0, 0, // headers
+    1, 0, 0, 0, 0, 0x10, 0, 0, 0, 0x90, 4, 8, 0, 0x90, 4, 8, 62, 0, 0, 0, 62, 0, 0, 0, 5, 0, 0, 0,
+    0, 0x10, 0, 0, // code
+    1, 0, 0, 0, 0, 0x20, 0, 0, 0, 0xA0, 4, 8, 0, 0xA0, 4, 8, 4, 0, 0, 0, 4, 0, 0, 0, 4, 0, 0, 0, 0,
+    0x10, 0, 0, // constant
+    1, 0, 0, 0, 0, 0x30, 0, 0, 0, 0xB0, 4, 8, 0, 0xB0, 4, 8, 4, 0, 0, 0, 16, 0, 0, 0, 6, 0, 0, 0,
+    0, 0x10, 0, 0, // data
+    0x51, 0xE5, 0x74, 0x64, 0, 0, 0, 0, 0, 0, 0, 0, 0, 0, 0, 0, 0, 0, 0, 0, 0, 0, 0, 0, 6, 0, 0, 0,
+    0, 0, 0, 0, // stack
+];
+
+/// `endbr32`; the length of the first word of the call is counted, and a procedure is called that writes it from where the last
+/// write ended, until nothing is left; `repz ret`.
+const WRITE_WORD: [u8; 62] =
+    *b"\xF3\x0F\x1E\xFB\x8B\x74\x24\x04\x31\xD2\x80\x3C\x16\x00\x74\x03\x42\xEB\xF7\x85\xD2\x74\x0D\x89\xF1\xE8\x12\0\0\0\x01\xC6\x29\xC2\xEB\xEF\x31\xDB\xB8\x01\0\0\0\xCD\x80\xF4\x66\x90\xBB\x01\0\0\0\xB8\x04\0\0\0\xCD\x80\xF3\xC3";
+
+/// A file as a linker lays it out, of 0x3004 bytes, which writes the first word of its call.
+pub fn linked_file(alloc: Global) -> Result<Vec<u8>, AllocError> {
+    let mut file = vec![in alloc; 0u8; 0x3004]?;
+    file[..212].copy_from_slice(&LINKED_HEADERS);
+    file[4096..4158].copy_from_slice(&WRITE_WORD);
+    Ok(file)
+}
+
 // The headers of the written file: the old code without leave to run it, the room, new code at 0x60000000, of which the
 // size is still 0, and the stack, which can't be run (PT_GNU_STACK, 0x6474E551).
 const NEW_HEADERS: [u8; 180] = [

@@ -13,3 +13,5 @@ mod refusals;
 mod rewriting;
 #[cfg(test)]
 mod running;
+#[cfg(test)]
+mod values;

@@ -1,6 +1,6 @@
 // Programs that are run on the stated machine, by their code. What is expected is written by hand, from Intel SDM volume 2, the calls of
 // Linux for the i386 and this project's own rules.
-use crate::files::{ADD_TWO, EXIT_SEVEN, file_of};
+use crate::files::{ADD_TWO, EXIT_SEVEN, file_of, linked_file};
 use crate::hosts::{REWRITE, end_of, line_of};
 use mem_pages::RunEnd;
 use outside::Answer;
@@ -129,6 +129,14 @@ fn runs_procedures(rt: HostRuntime) -> Result<(), Fail> {
             input: b"",
             written: &[],
             end: RunEnd::Exited(4),
+        },
+        // push 6; mov [0804A000], esp; a call of mov eax, [0804A000]; mov eax, [eax]
+        Run {
+            name: "reads its caller's stack",
+            text: b"\xE8\x0A\0\0\0\x89\xC3\xB8\x01\0\0\0\xCD\x80\xF4\x6A\x06\x89\x25\0\xA0\x04\x08\xE8\x04\0\0\0\x83\xC4\x04\xC3\xA1\0\xA0\x04\x08\x8B\0\xC3",
+            input: b"",
+            written: &[],
+            end: RunEnd::Exited(6),
         },
         // and esp, -16; and the addition
         Run {
@@ -276,22 +284,58 @@ fn counts_its_steps(rt: HostRuntime) -> Result<(), Fail> {
     Ok(())
 }
 
-// The answer to a write is an error: the program goes on, and nothing is moved.
+/// A run of this file from its name alone, over these answers: the bytes that each write takes. It exits with 0.
+#[derive(Drop)]
+struct Answered<'a> {
+    name: &'a str,
+    file: &'a [u8],
+    answers: &'a [Answer],
+    written: &'a [&'a [u8]],
+}
+
+// The run of the file takes the answers, and writes that.
+fn expect_answered(rt: &impl Abort, alloc: Global, row: &Answered) -> Result<(), Fail> {
+    let mut host = MemoryHost::new(alloc);
+    host.add_file(row.name, row.file)?;
+    for answer in row.answers {
+        host.add_answer(*answer)?;
+    }
+    let end = end_of(alloc, &["run", row.name], &mut host)?;
+    assert_eq!(rt; end, End::Ran(RunEnd::Exited(0)), "{}", row.name);
+    let moved = host.moved().as_slice();
+    assert_eq!(rt; moved.len(), row.written.len(), "{}", row.name);
+    for (write, bytes) in moved.iter().zip(row.written) {
+        assert_eq!(rt; write.fd, 1, "{}", row.name);
+        assert_eq!(rt; write.bytes.as_slice(), *bytes, "{}", row.name);
+    }
+    Ok(())
+}
+
+// The answer to a write is an error: the program goes on, and nothing is moved. And a file as a linker lays it out, whose writes
+// take one byte each: it writes its name.
 #[test]
 fn takes_answers(rt: HostRuntime) -> Result<(), Fail> {
     let alloc = rt.alloc();
-    let file = file_of(
+    let failing = file_of(
         alloc,
         b"\xB8\x04\0\0\0\xBB\x01\0\0\0\xB9\x23\x90\x04\x08\xBA\x03\0\0\0\xCD\x80\xBB\0\0\0\0\xB8\x01\0\0\0\xCD\x80\xF4\x68\x69\x0A",
     )?;
-    let mut host = MemoryHost::new(alloc);
-    host.add_file("a", file.as_slice())?;
-    host.add_answer(Answer::Fail(5))?;
-    let end = end_of(alloc, &["run", "a"], &mut host)?;
-    assert_eq!(rt; end, End::Ran(RunEnd::Exited(0)));
-    match host.moved().as_slice() {
-        [write] => assert_eq!(rt; write.bytes.as_slice(), b"".as_slice()),
-        _ => assert!(rt; false, "one write"),
+    let linked = linked_file(alloc)?;
+    for row in [
+        Answered {
+            name: "a",
+            file: failing.as_slice(),
+            answers: &[Answer::Fail(5)],
+            written: &[b""],
+        },
+        Answered {
+            name: "ab",
+            file: linked.as_slice(),
+            answers: &[Answer::Take(1), Answer::Take(1)],
+            written: &[b"\x61", b"\x62"],
+        },
+    ] {
+        expect_answered(&rt, alloc, &row)?;
     }
     Ok(())
 }

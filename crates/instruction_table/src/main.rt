@@ -3,14 +3,12 @@
 #![tactic(auto)]
 
 mod front;
-mod instr_text;
 mod line;
-mod operand_text;
 mod spelling;
 
 ghost use Rattle.x86_grammar.specs.Fields.{HasSpelling};
 
-use instr_text::InstrText;
+use instruction_text::InstrText;
 use line::Line;
 use spelling::Spelling;
 use std::io::{self, BufReader, BufWriter, Read, Write};

@@ -1,7 +1,7 @@
 -- Bytes that are made unspecified one after the other, that are written, and that come after those that are kept.
-use Rattle.std.proofs.Common.{◌≡◌, ◌==◌, ℕ, zero, suc, inl, inr, min, ◌+◌, ◌<◌, ◌≤◌, ◌&&◌, false, cond, leb, ltb, List, [], ◌∷◌, ◌++◌, length, take, get_or, arith, refl, ◌∙◌}
+use Rattle.std.proofs.Common.{◌≡◌, ◌==◌, ℕ, zero, suc, inl, inr, min, ◌+◌, ◌<◌, ◌≤◌, ◌&&◌, false, cond, leb, ltb, List, [], ◌∷◌, ◌++◌, length, take, drop, get_or, arith, refl, ap, ◌∙◌}
 use Rattle.std.proofs.Math.ListN.{set, length-set, replicate, length-replicate}
-use Rattle.std.proofs.lemmas.List.{get_or-replicate, get_or-set_same, get_or-set_other, get_or_past, take_all}
+use Rattle.std.proofs.lemmas.List.{append-nil, drop_all, get_or-replicate, get_or-set_same, get_or-set_other, get_or_past, take_all}
 use Rattle.std.proofs.lemmas.Bool.{cases_eq, cases_lt, eq-eqb, ne_eqb}
 use Rattle.std.proofs.lemmas.Bool.Decides.{nat_tests}
 use Rattle.x86_values.specs.declared.byte.Byte.{Byte}
@@ -55,3 +55,7 @@ get_or_more (b ∷ bs) n d (suc i) = get_or_more bs n d i
 -- bytes that are added past the end are those that were read there
 pub get_or_grown : (bs : List Byte) (m n : ℕ) (d : Byte) (i : ℕ) → length bs ≤ m → get_or (take m bs ++ replicate n d) i d ≡ get_or bs i d
 get_or_grown bs m n d i l = rw (take_all m bs l) (get_or_more bs n d i)
+
+-- what a vector holds, whose items were lent whole
+pub lent_whole : (n : ℕ) (new old : List Byte) → length new ≡ length old → length old ≤ n → take n (new ++ drop (length new) old) ≡ new
+lent_whole n new old e l = ap (λ xs. take n (new ++ xs)) (drop_all (length new) old (omega (arith, e))) ∙ ap (take n) (append-nil new) ∙ take_all n new (omega (arith, e, l))

@@ -11,3 +11,5 @@ pub mod WithinPage
 pub mod LoadedWord
 pub mod StoredWord
 pub mod StoredThere
+pub mod LentThere
+pub mod LentPages

@@ -186,6 +186,10 @@ pub is_kept_there : (p : Pages) (at : ℕ) → is_kept p at ≡ true → keeps p
 unfolding is_kept
 is_kept_there p at h = h
 
+pub there_is_kept : (p : Pages) (at : ℕ) → keeps p.directory at ≡ true → is_kept p at ≡ true
+unfolding is_kept
+there_is_kept p at h = h
+
 pub read_some : (o : Option Place) (b : Byte) → Some b ≡ seen o → Ok b ≡ byte_read o
 read_some None b e = absurd cc
 read_some (Some p) b e = cc

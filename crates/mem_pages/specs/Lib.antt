@@ -3,6 +3,8 @@ pub mod Page
 pub mod Directory
 pub mod Exposed
 pub mod Lending
+pub mod LentPart
 pub mod Contents
 pub mod Accesses
+pub mod Lent
 pub mod Ends

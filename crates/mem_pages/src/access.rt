@@ -151,7 +151,7 @@ impl Pages {
 
     /// The word of the `size` bytes from an address on, 1, 2 or 4, the lowest first, with zeros above them; none where one of them
     /// isn't mapped. Addresses wrap at 2^32. It takes no memory.
-    #[inline]
+    #[inline(always)]
     pub fn load(&self, at: u32, size: u8) -> Option<Word>
         requires { IsSize size }
         ensures { result ≡ loaded (memory_in self.now) at size }
@@ -184,7 +184,7 @@ impl Pages {
     }
 
     /// Stores the lowest `size` bytes of a word, 1, 2 or 4, from an address on. Addresses wrap at 2^32.
-    #[inline]
+    #[inline(always)]
     pub fn store(&mut self, at: u32, size: u8, word: Word) -> Result<(), PageFault>
         requires { IsSize size }
         ensures stores { Stores at size word result self.old self.new }
@@ -194,6 +194,9 @@ impl Pages {
             return self.store_each(at, size, word);
         }
         if self.store_part(at, size, word) {
+            return Ok(());
+        }
+        if self.store_opened(at, size, word) {
             return Ok(());
         }
         self.store_each(at, size, word)

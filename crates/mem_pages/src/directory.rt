@@ -1,13 +1,16 @@
 // The pages by their numbers, in tables of 1,024.
-ghost use Rattle.std.specs.Prelude.{◌≡◌, ℕ, ◌/◌, ◌%◌, ◌<◌, ◌≤◌, Bool, true, false, [], length, OnOk, Option, Some, None};
+ghost use Rattle.std.specs.Prelude.{◌≡◌, ℕ, ◌+◌, ◌/◌, ◌%◌, ◌<◌, ◌≤◌, Bool, true, false, [], length, OnOk, Option, Some, None};
 ghost use Rattle.std.specs.Borrow.{sem};
 ghost use Rattle.std.specs.List.{slice_get};
-ghost use Rattle.std.specs.Option.{option_copied, option_map, is_some};
+ghost use Rattle.std.specs.Option.{option_copied, option_map, is_some, IfSome};
+ghost use Rattle.mem_pages.specs.Page.{place_in, ShowsBytes};
+ghost use Rattle.mem_pages.specs.LentPart.{CanLend, LendsPartOf, LendsPart};
 ghost use Rattle.mem_pages.specs.Directory.{pages_of, page_at, contents, keeps, IsGrown, HasGrown};
 ghost use Rattle.mem_pages.specs.Lending.{LendsPage, LendsTable, LendsPageAt};
 
-use crate::page::Page;
+use crate::page::{PAGE, Page};
 use std::alloc::{AllocError, Global};
+use x86_values::Byte;
 
 /// Pages side by side.
 #[derive(Drop)]
@@ -33,7 +36,7 @@ impl Table {
     }
 
     /// The page with a number, from 0.
-    #[inline]
+    #[inline(always)]
     fn page(&self, index: usize) -> Option<&Page>
         ensures { option_copied result ≡ slice_get self.now.pages.items index }
     {
@@ -51,8 +54,19 @@ impl Table {
         Ok(())
     }
 
+    /// Some bytes of a page, to be changed.
+    fn lend(&mut self, index: usize, at: u32, count: u32) -> &mut [Byte]
+        requires in_page { at + count ≤ 4096 }
+        requires open { CanLend (slice_get self.old.pages.items index) at }
+        ensures* writes_back { sem 𝓛 (LendsPartOf self.entry index at result) }
+        ensures shown { IfSome (slice_get self.old.pages.items index) (λ g. ShowsBytes (place_in g) at count result.now) }
+    {
+        let page = &mut self.pages[index];
+        page.lend(at, count)
+    }
+
     /// The page with a number, to be changed.
-    #[inline]
+    #[inline(always)]
     fn page_mut(&mut self, index: usize) -> Option<&mut Page>
         ensures* writes_back { sem 𝓛 (LendsPage self.entry index result) }
         ensures value { option_map (λ g. g.now) result ≡ slice_get self.old.pages.items index }
@@ -74,7 +88,7 @@ impl Directory {
     }
 
     /// The table with a number.
-    #[inline]
+    #[inline(always)]
     fn table(&self, index: usize) -> Option<&Table>
         ensures { option_copied result ≡ slice_get self.now.tables.items index }
     {
@@ -82,7 +96,7 @@ impl Directory {
     }
 
     /// The table with a number, to be changed.
-    #[inline]
+    #[inline(always)]
     fn table_mut(&mut self, index: usize) -> Option<&mut Table>
         ensures* writes_back { sem 𝓛 (LendsTable self.entry index result) }
         ensures value { option_map (λ t. t.now) result ≡ slice_get self.old.tables.items index }
@@ -91,7 +105,7 @@ impl Directory {
     }
 
     /// The page with a number.
-    #[inline]
+    #[inline(always)]
     #[tactic(auto, unfolding(crate::specs::Directory::page_at), using(crate::proofs::Tables::pages_of_is))]
     pub fn page(&self, number: u32) -> Option<&Page>
         ensures { option_copied result ≡ page_at self.now number }
@@ -103,7 +117,7 @@ impl Directory {
     }
 
     /// The page with a number, to be changed.
-    #[inline]
+    #[inline(always)]
     pub fn page_mut(&mut self, number: u32) -> Option<&mut Page>
         ensures* writes_back { sem 𝓛 (LendsPageAt self.entry number result) }
         ensures value { option_map (λ g. g.now) result ≡ page_at self.old number }
@@ -112,6 +126,17 @@ impl Directory {
             Some(table) => table.page_mut((number % 1024) as usize),
             None => None,
         }
+    }
+
+    /// Some bytes of a page from an address on, to be changed.
+    pub fn lend(&mut self, at: u32, count: u32) -> &mut [Byte]
+        requires in_page { at % 4096 + count ≤ 4096 }
+        requires open { CanLend (page_at self.old (at / 4096)) (at % 4096) }
+        ensures* writes_back { sem 𝓛 (LendsPart self.entry at result) }
+        ensures shown { ShowsBytes (contents self.old) at count result.now }
+    {
+        let table = &mut self.tables[(at / PAGE / 1024) as usize];
+        table.lend((at / PAGE % 1024) as usize, at % PAGE, count)
     }
 
     /// Adds tables of no pages up to the one with a number.

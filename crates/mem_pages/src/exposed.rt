@@ -38,6 +38,7 @@ impl Exposed {
 
     /// Whether a page is listed.
     #[tactic(auto, unfolding(crate::specs::Exposed::lists), using(std::proofs::lemmas::Bool::Decides::nat_tests))]
+    #[inline(always)]
     pub fn has(&self, number: u32) -> bool
         ensures { result ≡ lists self.now number }
     {

@@ -8,6 +8,8 @@ ghost use Rattle.mem_pages.specs.Regions.{unmapped, with_region, forget_between,
 ghost use Rattle.mem_pages.specs.Accesses.{loaded};
 ghost use Rattle.x86_values.specs.Sizes.{IsSize};
 ghost use Rattle.x86_values.specs.Words.{word_list};
+ghost use Rattle.std.specs.Borrow.{sem};
+ghost use Rattle.mem_pages.specs.LentPart.{CanLend, LendsBytes};
 ghost use Rattle.mem_pages.specs.Page.{maps, place_in, kept_in, is_plain, put_part, shown, seen, KeepsBytes, ShowsBytes, Judges, kind_of_access};
 
 use std::alloc::{AllocError, Global};
@@ -34,9 +36,11 @@ fn clear(bytes: &mut Vec<Byte>, start: u32, end: u32)
     ensures places { (i : ℕ) → slice_index_or bytes.new.items i byte.Unspecified ≡ cond (leb start i && ltb i end) byte.Unspecified (slice_index_or bytes.old.items i byte.Unspecified) }
     ensures len { length bytes.new.items ≡ length bytes.old.items }
 {
+    let blank = Byte::Unspecified;
     let end = (end as usize).min(bytes.len());
+    let places = bytes.as_mut_slice();
     for at in start as usize..end {
-        bytes[at] = Byte::Unspecified;
+        places[at] = blank;
     }
 }
 
@@ -57,7 +61,7 @@ impl Page {
     }
 
     /// Whether its bytes are those of the stack.
-    #[inline]
+    #[inline(always)]
     pub fn is_stack(&self) -> bool
         ensures { result ≡ is_unspecified self.now.unset }
     {
@@ -184,7 +188,7 @@ impl Page {
     }
 
     /// Whether some places are mapped and their bytes are read as they are kept; on the stack not where they are hidden.
-    #[inline]
+    #[inline(always)]
     #[tactic(auto, using(std::proofs::lemmas::Bool::Decides::nat_tests))]
     fn is_plain(&self, at: u32, count: u32, hidden: bool) -> bool
         requires { at + count ≤ 4096 }
@@ -198,7 +202,7 @@ impl Page {
     }
 
     /// The word of some bytes, the lowest first, where they are read as they are kept.
-    #[inline]
+    #[inline(always)]
     pub fn word(&self, at: u32, size: u8, hidden: bool) -> Option<Word>
         requires size { IsSize size }
         requires in_page { at + size ≤ 4096 }
@@ -237,7 +241,7 @@ impl Page {
     }
 
     /// Makes some bytes the lowest of a word, which are read as they are kept.
-    #[inline]
+    #[inline(always)]
     fn set_word(&mut self, at: u32, size: u8, word: Word)
         requires size { IsSize size }
         requires in_page { at + size ≤ 4096 }
@@ -259,7 +263,7 @@ impl Page {
     }
 
     /// Makes some bytes the lowest of a word, where they can be written and are read as they are kept; else it changes nothing.
-    #[inline]
+    #[inline(always)]
     pub fn store(&mut self, at: u32, size: u8, word: Word, hidden: bool) -> bool
         requires size { IsSize size }
         requires in_page { at + size ≤ 4096 }
@@ -277,6 +281,16 @@ impl Page {
         }
         self.set_word(at, size, word);
         true
+    }
+
+    /// The bytes of some places, to be changed.
+    pub fn lend(&mut self, at: u32, count: u32) -> &mut [Byte]
+        requires in_page { at + count ≤ 4096 }
+        requires open { CanLend (Some self.old) at }
+        ensures* writes_back { sem 𝓛 (LendsBytes self.entry at result) }
+        ensures shown { ShowsBytes (place_in self.old) at count result.now }
+    {
+        self.bytes.slice_mut(at as usize..(at + count) as usize)
     }
 
     /// The bytes of some places; none where they aren't kept, or where one of them may be hidden.

@@ -12,9 +12,9 @@ use x86_values::{Byte, Word};
 /// Memory in pages. Each byte of the stack below `lowest` is unspecified, and each in a page that `exposed` doesn't list.
 #[derive(Drop)]
 pub struct Pages {
-    directory: Directory,
+    pub(crate) directory: Directory,
     lowest: u32,
-    exposed: Exposed,
+    pub(crate) exposed: Exposed,
     ghost quiet: { IsQuiet exposed directory },
 }
 
@@ -82,7 +82,7 @@ impl Pages {
     }
 
     /// The word of some bytes of a page, where they stand there as they are read.
-    #[inline]
+    #[inline(always)]
     pub(crate) fn word(&self, at: u32, size: u8) -> Option<Word>
         requires size { IsSize size }
         requires in_page { at % 4096 + size ≤ 4096 }
@@ -125,7 +125,7 @@ impl Pages {
     }
 
     /// Lets the byte at an address be known, also where it is one of the stack below `lowest`.
-    fn ready(&mut self, at: u32)
+    pub(crate) fn ready(&mut self, at: u32)
         ensures same { SameMemory self.old self.new }
         ensures keeps { KeepsPages self.old self.new }
         ensures ready { IsReady at self.new }
@@ -149,7 +149,7 @@ impl Pages {
     }
 
     /// Whether a byte of the stack counts as unspecified there, or its page may not be listed.
-    #[inline]
+    #[inline(always)]
     fn hides(&self, at: u32) -> bool
         ensures low { result ≡ false → self.now.lowest ≤ at }
         ensures listed { result ≡ false → lists self.now.exposed (at / 4096) ≡ true }
@@ -158,7 +158,7 @@ impl Pages {
     }
 
     /// Makes some bytes of a page the lowest of a word, where nothing else has to change; or changes nothing.
-    #[inline]
+    #[inline(always)]
     pub(crate) fn store_part(&mut self, at: u32, size: u8, word: Word) -> bool
         requires size { IsSize size }
         requires in_page { at % 4096 + size ≤ 4096 }
@@ -225,6 +225,7 @@ impl Pages {
     }
 
     /// Makes each byte of the stack below an address unspecified. It takes no memory.
+    #[inline(always)]
     pub fn forget_below(&mut self, end: u32)
         ensures forgets { memory_in self.new ≡ spec.forget_below end (memory_in self.old) }
         ensures keeps { KeepsPages self.old self.new }

@@ -8,6 +8,7 @@ ghost use Rattle.x86_values.specs.Sizes.{IsSize};
 ghost use Rattle.x86_values.specs.Words.{word_list};
 ghost use Rattle.mem_pages.specs.Accesses.{loaded};
 ghost use Rattle.mem_pages.specs.Directory.{page_at, contents, keeps, KeepsPlaces, HasGrown};
+ghost use Rattle.mem_pages.specs.LentPart.{CanLend};
 
 use crate::directory::Directory;
 use crate::page::PAGE;
@@ -41,7 +42,7 @@ impl Directory {
     }
 
     /// The word of some bytes of a page, where they are read as they are kept; on the stack not where they are hidden.
-    #[inline]
+    #[inline(always)]
     pub fn word(&self, at: u32, size: u8, hidden: bool) -> Option<Word>
         requires size { IsSize size }
         requires in_page { at % 4096 + size ≤ 4096 }
@@ -110,7 +111,7 @@ impl Directory {
 
     /// Makes some bytes of a page the lowest of a word, where they can be written and are read as they are kept, on the stack not where
     /// they are hidden; else it changes nothing.
-    #[inline]
+    #[inline(always)]
     pub fn store(&mut self, at: u32, size: u8, word: Word, hidden: bool) -> bool
         requires size { IsSize size }
         requires in_page { at % 4096 + size ≤ 4096 }
@@ -136,6 +137,19 @@ impl Directory {
         match self.page_mut(at / PAGE) {
             Some(page) => page.keep(),
             None => Ok(()),
+        }
+    }
+
+    /// Lets bytes from an address on be known, of the stack too.
+    pub fn expose(&mut self, at: u32)
+        requires { keeps self.old at ≡ true }
+        ensures places { (a : ℕ) → contents self.new a ≡ contents self.old a }
+        ensures keeps { KeepsPlaces self.old self.new }
+        ensures open { CanLend (page_at self.new (at / 4096)) (at % 4096) }
+    {
+        match self.page_mut(at / PAGE) {
+            Some(page) => page.expose(at % PAGE),
+            None => (),
         }
     }
 

@@ -3,6 +3,18 @@ use crate::{PageFault, Pages};
 use std::test::Fail;
 use x86_values::{Byte, known, word_of};
 
+// The last of four bytes that are lent, of which the first is changed.
+fn last_of_lent(pages: &mut Pages) -> Result<Byte, PageFault> {
+    match pages.can_lend_mut(4092, 4) {
+        Ok(()) => {
+            let part = pages.lend_mut(4092, 4);
+            part[0] = Byte::Known(9);
+            Ok(part[3])
+        }
+        Err(fault) => Err(fault),
+    }
+}
+
 #[test]
 fn a_region(rt: HostRuntime) -> Result<(), Fail> {
     let mut pages = Pages::new(rt.alloc());
@@ -24,6 +36,10 @@ fn a_region(rt: HostRuntime) -> Result<(), Fail> {
     assert_eq!(rt; copied[2], 8);
     assert_eq!(rt; pages.lend(8190, 2).is_ok(), true);
     assert_eq!(rt; pages.lend(9000, 1).is_ok(), false);
+    assert_eq!(rt; last_of_lent(&mut pages), Ok(Byte::Known(2)));
+    assert_eq!(rt; pages.read(4092), Ok(Byte::Known(9)));
+    assert_eq!(rt; pages.read(4093), Ok(Byte::Known(7)));
+    assert_eq!(rt; pages.can_lend_mut(9000, 1), Err(PageFault::NotMapped));
     Ok(())
 }
 

@@ -9,7 +9,7 @@ use Rattle.x86_values.specs.declared.byte.Byte.TheVariants.{Known}
 use Rattle.x86_values.specs.Words.{IsByte, known, known_byte, all_known}
 use Rattle.memory.specs.Memory.{Memory, Stored, Load, Store, bytes_at, SameIn}
 use Rattle.memory.specs.SystemCall.{Request, Called, Ends, error, EBADF, EFAULT, passes, Plan, Refused, Stops, Asks, read_plan, asks_known, write_plan, after_answer, read_by, write_by, reads, writes, read_call, write_call, exit_call, transfer_call, call_by, system_call}
-use Rattle.memory.specs.CallLaws.{SameBuffer, CallByBuffer, SameInIsBuffer, IsPlainCall, CallsArePlain, StoresBytes, CallIsKept, CallsKeepEnvironment, LeavesInput, CallsLeaveInput}
+use Rattle.memory.specs.CallLaws.{SameBuffer, CallByBuffer, SameInIsBuffer, IsPlainCall, CallsArePlain, ShowsOneEvent, CallsShowOneEvent, StoresBytes, CallIsKept, CallsKeepEnvironment, LeavesInput, CallsLeaveInput}
 use Rattle.memory.proofs.Memories.{allows_in_same, bytes_in_same}
 
 fewer : (at count k : ℕ) (m n : Memory) → k ≤ count → SameIn at count m n → SameIn at k m n
@@ -133,6 +133,25 @@ are_plain q m left = outcome_holds IsPlainCall left (record {
   read = λ fd at n x e. read_plain fd at n x left;
   write_refused = λ fd r. refl;
   written = λ fd bytes x e. write_plain fd bytes x left;
+}) q m
+
+read_shows_one : (fd at n : ℕ) (x : Answer) (left : Environment) → ShowsOneEvent (read_by x fd at n left)
+read_shows_one fd at n (Take k) left = omega arith
+read_shows_one fd at n (Fail e) left = omega arith
+
+write_shows_one : (fd : ℕ) (bytes : List ℕ) (x : Answer) (left : Environment) → ShowsOneEvent (write_by x fd bytes left)
+write_shows_one fd bytes (Take k) left = omega arith
+write_shows_one fd bytes (Fail e) left = omega arith
+
+pub show_one_event : CallsShowOneEvent
+show_one_event q m left = outcome_holds ShowsOneEvent left (record {
+  stopped = tt;
+  exited = λ status. tt;
+  other = λ number. tt;
+  read_refused = λ fd at r. omega arith;
+  read = λ fd at n x e. read_shows_one fd at n x left;
+  write_refused = λ fd r. omega arith;
+  written = λ fd bytes x e. write_shows_one fd bytes x left;
 }) q m
 
 -- ---- the environment

@@ -1,8 +1,8 @@
 -- The laws of system calls.
-use Rattle.std.specs.Prelude.{◌≡◌, ℕ, true, false, min, Bool, List, All, Some}
+use Rattle.std.specs.Prelude.{◌≡◌, ℕ, ◌≤◌, true, false, min, Bool, List, length, All, Some}
 use Rattle.x86_values.specs.Words.{IsByte, known}
 use Rattle.outside.specs.Environment.{Environment, cap, IsEnvironment}
-use Rattle.traces.specs.Trace.{End, Guard, Stopped, turns, input_left}
+use Rattle.traces.specs.Trace.{End, Guard, Stopped, events, turns, input_left}
 use Rattle.memory.specs.Memory.{Memory, Stored, Load, Store, bytes_at, SameIn}
 use Rattle.memory.specs.SystemCall.{Request, Called, Ends, Gives, passes, system_call}
 
@@ -34,6 +34,14 @@ IsPlainCall (Gives ls result stores left) = turns ls ≡ 0
 abbrev pub CallsArePlain : Type 0
 CallsArePlain = (q : Request) (m : Memory) (left : Environment) → IsPlainCall (system_call q m left)
 
+-- a call shows at most one event
+abbrev pub ShowsOneEvent : Called → Type 0
+ShowsOneEvent (Ends e) = Unit {0}
+ShowsOneEvent (Gives ls result stores left) = length (events ls) ≤ 1
+
+abbrev pub CallsShowOneEvent : Type 0
+CallsShowOneEvent = (q : Request) (m : Memory) (left : Environment) → ShowsOneEvent (system_call q m left)
+
 -- what a call stores are known bytes of the input, and what it leaves is an environment again
 abbrev pub StoresBytes : List Stored → Type 0
 StoresBytes stores = All (λ (s : Stored). All IsByte s.bytes) stores
@@ -58,5 +66,6 @@ pub record CallLaws : Type 0 where
   pub by_buffer : CallByBuffer
   pub same_in_is_buffer : SameInIsBuffer
   pub are_plain : CallsArePlain
+  pub show_one_event : CallsShowOneEvent
   pub keep_environment : CallsKeepEnvironment
   pub leave_input : CallsLeaveInput

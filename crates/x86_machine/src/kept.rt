@@ -9,7 +9,7 @@ use std::alloc::{AllocError, Global};
 use std::marker::Model;
 use x86_types::Instr;
 
-/// How many lists there are, by the lowest bits of the address.
+/// How many lists there are.
 const LISTS: usize = 65536;
 
 /// The end of a list.
@@ -24,8 +24,7 @@ pub struct KeptInstr {
     pub next: u32,
 }
 
-/// Segments, and the instructions that were decoded from them. Each is found by its address, in a list of those whose lowest bits
-/// are the same.
+/// Segments, and the instructions that were decoded from them. Each is found by its address, in one of the lists.
 #[derive(Drop)]
 pub struct KeptCode {
     segments: Vec<Segment>,
@@ -58,6 +57,7 @@ impl KeptCode {
     }
 
     /// The instruction that stands at an address, by its index. It is decoded where it wasn't yet.
+    #[inline(always)]
     pub fn fetch(&mut self, at: u32) -> Result<Option<usize>, AllocError>
         ensures same { self.new.segments ≡ self.old.segments }
         ensures fetched { IfOk result (λ found. IsFetched at found self.new) }
@@ -72,6 +72,7 @@ impl KeptCode {
     }
 
     /// A kept instruction.
+    #[inline(always)]
     pub fn get(&self, index: usize) -> &KeptInstr
         requires { index < length self.now.kept }
         ensures { slice_get self.now.kept index ≡ Some result.now }
@@ -80,6 +81,7 @@ impl KeptCode {
     }
 
     // The index of the kept instruction at an address.
+    #[inline(always)]
     fn find(&self, at: u32) -> Option<usize>
         ensures { IfSome result (λ index. IsKeptAt at index self.now) }
     {
@@ -120,9 +122,11 @@ impl KeptCode {
     }
 }
 
-// The list of an address.
+// The list of an address: the upper half of its product with an odd number, so that addresses at any regular distance are spread
+// over the lists.
+#[inline(always)]
 fn list_of(at: u32) -> usize {
-    at as usize % LISTS
+    (at.wrapping_mul(0x9E37_79B1) / 0x1_0000) as usize
 }
 
 // The segments, without the bytes that can't be run.

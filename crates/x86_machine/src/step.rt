@@ -13,6 +13,7 @@ use x86_meaning::{Cpu, step_laws};
 use x86_step::{Stepped, step_one};
 
 /// Makes a step. The answer is how the run ends, if it does; where memory is wanting nothing has changed.
+#[inline(always)]
 pub(crate) fn make_step<H: Host>(
     alloc: Global,
     kept: &KeptInstr,

@@ -21,6 +21,7 @@ pub enum Turned {
 }
 
 // The count of steps after one more.
+#[inline(always)]
 fn one_more(steps: u64) -> u64
     ensures { result ≡ steps_after 1 steps }
 {
@@ -29,6 +30,7 @@ fn one_more(steps: u64) -> u64
 
 impl Machine {
     /// Makes a step.
+    #[inline(always)]
     pub(crate) fn turn<H: Host>(&mut self, host: &mut H) -> Result<Turned, AllocError>
         requires { ended_in self.old ≡ None }
         ensures turns { Tells (H.told host.old) (H.told host.new) (Turns result self.old self.new) }

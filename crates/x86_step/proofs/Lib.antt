@@ -13,3 +13,6 @@ pub mod FastForms
 pub mod OneForms
 pub mod FlowForms
 pub mod FourBytes
+pub mod DirectReads
+pub mod DirectForms
+pub mod DirectProducts

@@ -62,3 +62,15 @@ same_start i len r c e d m l n h k = rw (h.cpu, h.memory) at k
 pub steps_after : (i : Instr) (len : ℕ) (b : Bool) (r : Result Stepped AllocError) (c e d : Cpu) (m l n : Memory) → b ≡ false → FastOrStays i len b c m e l → StepsOrStays i len r e l d n → StepsOrStays i len r c m d n
 steps_after i len false r c e d m l n f h k = same_start i len r c e d m l n h k
 steps_after i len true r c e d m l n f h k = cc
+
+-- ---- a step directly, or else in place
+begins_there : (i : Instr) (len : ℕ) (b : Bool) (c e d : Cpu) (m l n : Memory) → Stays c m e l → FastOrStays i len b e l d n → FastOrStays i len b c m d n
+begins_there i len b c e d m l n h k = rw (h.cpu, h.memory) at k
+
+pub fast_after : (i : Instr) (len : ℕ) (a b : Bool) (c e d : Cpu) (m l n : Memory) → a ≡ false → FastOrStays i len a c m e l → FastOrStays i len b e l d n → FastOrStays i len b c m d n
+fast_after i len false b c e d m l n f h k = begins_there i len b c e d m l n h k
+fast_after i len true b c e d m l n f h k = cc
+
+pub fast_there : (i : Instr) (len : ℕ) (a : Bool) (c d : Cpu) (m n : Memory) → a ≡ true → FastOrStays i len a c m d n → FastOrStays i len true c m d n
+fast_there i len true c d m n f h = h
+fast_there i len false c d m n f h = cc

@@ -18,8 +18,8 @@ use x86_meaning::Cpu;
 use x86_values::{Byte, Word, word_of};
 
 // The lowest bytes of a word, and zeros above them.
-#[inline]
-fn lowest(size: Size, word: Word) -> Word
+#[inline(always)]
+pub(crate) fn lowest(size: Size, word: Word) -> Word
     ensures { result ≡ judged.lowest (bytes_in_size size) word }
 {
     let zero = Byte::Known(0);
@@ -47,9 +47,9 @@ fn lowest(size: Size, word: Word) -> Word
 }
 
 // The value of an operand in a register.
-#[inline]
+#[inline(always)]
 #[tactic(auto, using(crate::proofs::RegisterValues::second_part))]
-fn place_value(cpu: &Cpu, size: Size, place: Place) -> Word
+pub(crate) fn place_value(cpu: &Cpu, size: Size, place: Place) -> Word
     ensures { result ≡ judged.place_value (bytes_in_size size) place (registers_of cpu.now.regs) }
 {
     match place {
@@ -68,7 +68,7 @@ fn place_value(cpu: &Cpu, size: Size, place: Place) -> Word
 }
 
 // The word of a number, of which nothing is known where there is none.
-#[inline]
+#[inline(always)]
 fn word_if(number: Option<u32>) -> Word
     ensures { result ≡ operands.word_if number }
 {
@@ -84,7 +84,7 @@ fn word_if(number: Option<u32>) -> Word
 }
 
 // The word of the bytes from an address on.
-#[inline]
+#[inline(always)]
 #[tactic(auto, unfolding(memory::specs::Memory::allows_all, memory::specs::Memory::bytes_at))]
 fn load(mem: &Pages, at: u32, size: Size) -> Option<Word>
     ensures { result ≡ pages.loaded (memory_in mem.now) at (bytes_in_size size) }
@@ -98,7 +98,7 @@ fn load(mem: &Pages, at: u32, size: Size) -> Option<Word>
 }
 
 /// The value of an operand; `None` where its load isn't allowed.
-#[inline]
+#[inline(always)]
 pub(crate) fn value(operand: Operand, cpu: &Cpu, mem: &Pages) -> Option<Word>
     ensures { result ≡ judged.value_read (bytes_in_size operand.size) (as_location operand.location) (registers_of cpu.now.regs) (memory_in mem.now) }
 {

@@ -58,8 +58,8 @@ pub(crate) fn test_computed(size: u8, values: Values) -> Result<Computed, Stop>
 }
 
 // INC and DEC keep CF.
-#[inline]
-fn with_carry(carry: Option<bool>, answered: Answered) -> Answered
+#[inline(always)]
+pub(crate) fn with_carry(carry: Option<bool>, answered: Answered) -> Answered
     ensures exact { result ≡ spec.with_carry carry answered }
 {
     Answered {

@@ -7,14 +7,15 @@ ghost use Rattle.x86_meaning.specs.Outcomes as spec;
 ghost use Rattle.x86_step.specs.Computed.{computation_of, values_of};
 
 use crate::arithmetic::alu_computed;
+use crate::numbers::{number_in, word_with};
 use crate::outcome::{Computed, flags_alone, value_and_flags};
 use crate::values::Values;
 use x86_meaning::Stop;
 use x86_types::{AluOp, Width};
-use x86_values::{Answered, Bit, Flags, Word, add, bitwise, known, sub, word_of};
+use x86_values::{Answered, Bit, Flags, Word, add, bitwise, sub};
 
 // Whether the lowest byte of a number has an even number of ones.
-#[inline]
+#[inline(always)]
 #[tactic(auto, unfolding(x86_values::specs::Results::has_even_parity))]
 fn has_even_parity(number: u32) -> bool
     ensures { result ≡ results.has_even_parity number }
@@ -24,25 +25,33 @@ fn has_even_parity(number: u32) -> bool
     (low + high) % 2 == 0
 }
 
+/// The flags by a result of four bytes.
+#[inline(always)]
+pub(crate) fn flags_with(number: u32, carry: bool, overflow: bool) -> Flags
+    ensures { result ≡ results.flags_of 4 number (Some carry) (Some overflow) }
+{
+    Flags {
+        cf: Some(carry),
+        pf: Some(has_even_parity(number)),
+        zf: Some(number == 0),
+        sf: Some(number >= 0x8000_0000),
+        of: Some(overflow),
+    }
+}
+
 // A result of four bytes and its flags.
-#[inline]
+#[inline(always)]
 fn result_of(number: u32, carry: bool, overflow: bool) -> Answered
     ensures { result ≡ results.result_of 4 number (Some carry) (Some overflow) }
 {
     Answered {
-        value: word_of(number),
-        flags: Flags {
-            cf: Some(carry),
-            pf: Some(has_even_parity(number)),
-            zf: Some(number == 0),
-            sf: Some(number >= 0x8000_0000),
-            of: Some(overflow),
-        },
+        value: word_with(number),
+        flags: flags_with(number, carry, overflow),
     }
 }
 
 // A number as a signed one, to which half of the range is added.
-#[inline]
+#[inline(always)]
 fn raised(number: u32) -> u64
     ensures { result ≡ sums.raised 4 number }
 {
@@ -50,7 +59,7 @@ fn raised(number: u32) -> u64
 }
 
 // A carry as a number.
-#[inline]
+#[inline(always)]
 fn bit(carry: bool) -> u64
     ensures { result ≡ results.carry_number carry }
 {
@@ -58,7 +67,7 @@ fn bit(carry: bool) -> u64
 }
 
 // Whether the sum of two signed numbers is none of four bytes.
-#[inline]
+#[inline(always)]
 fn sum_overflows(left: u32, right: u32, carry: bool) -> bool
     ensures { result ≡ sums.sum_overflows 4 left right carry }
 {
@@ -67,7 +76,7 @@ fn sum_overflows(left: u32, right: u32, carry: bool) -> bool
 }
 
 // Whether the difference of two signed numbers is none of four bytes.
-#[inline]
+#[inline(always)]
 fn difference_overflows(left: u32, right: u32, borrow: bool) -> bool
     ensures { result ≡ sums.difference_overflows 4 left right borrow }
 {
@@ -77,9 +86,9 @@ fn difference_overflows(left: u32, right: u32, borrow: bool) -> bool
 }
 
 // The sum of two numbers.
-#[inline]
+#[inline(always)]
 #[tactic(auto, unfolding(x86_values::specs::Sums::sum))]
-fn sum(left: u32, right: u32, carry: bool) -> Answered
+pub(crate) fn sum(left: u32, right: u32, carry: bool) -> Answered
     ensures { result ≡ sums.sum 4 left right carry }
 {
     let sum = left as u64 + right as u64 + bit(carry);
@@ -91,9 +100,9 @@ fn sum(left: u32, right: u32, carry: bool) -> Answered
 }
 
 // The difference of two numbers.
-#[inline]
+#[inline(always)]
 #[tactic(auto, unfolding(x86_values::specs::Sums::difference))]
-fn difference(left: u32, right: u32, borrow: bool) -> Answered
+pub(crate) fn difference(left: u32, right: u32, borrow: bool) -> Answered
     ensures { result ≡ sums.difference 4 left right borrow }
 {
     let subtracted = right as u64 + bit(borrow);
@@ -106,31 +115,31 @@ fn difference(left: u32, right: u32, borrow: bool) -> Answered
 }
 
 /// The sum of two words and a carry, and its flags.
-#[inline]
+#[inline(always)]
 #[tactic(auto, using(crate::proofs::FourBytes::added))]
 pub(crate) fn add_words(x: Word, y: Word, carry: Option<bool>) -> Answered
     ensures { result ≡ sums.add 4 x y carry }
 {
-    match (known(x), known(y), carry) {
+    match (number_in(x), number_in(y), carry) {
         (Some(left), Some(right), Some(carry)) => sum(left, right, carry),
         _ => add(4, x, y, carry),
     }
 }
 
 /// The difference of two words and a borrow, and its flags.
-#[inline]
+#[inline(always)]
 #[tactic(auto, using(crate::proofs::FourBytes::subtracted))]
 pub(crate) fn sub_words(x: Word, y: Word, borrow: Option<bool>) -> Answered
     ensures { result ≡ sums.sub 4 x y borrow }
 {
-    match (known(x), known(y), borrow) {
+    match (number_in(x), number_in(y), borrow) {
         (Some(left), Some(right), Some(borrow)) => difference(left, right, borrow),
         _ => sub(4, x, y, borrow),
     }
 }
 
 // ADD to CMP of two whole words.
-#[inline]
+#[inline(always)]
 fn alu_of_words(op: AluOp, flags: Flags, x: Word, y: Word) -> Result<Computed, Stop>
     ensures { computation_of result ≡ spec.alu_computed op 4 flags x y }
 {
@@ -147,7 +156,7 @@ fn alu_of_words(op: AluOp, flags: Flags, x: Word, y: Word) -> Result<Computed, S
 }
 
 // ADD to CMP at a width of four bytes.
-#[inline]
+#[inline(always)]
 fn alu_of_four(op: AluOp, flags: Flags, values: Values) -> Result<Computed, Stop>
     ensures { computation_of result ≡ spec.on_two (spec.alu_computed op 4 flags) (values_of values) }
 {
@@ -158,7 +167,7 @@ fn alu_of_four(op: AluOp, flags: Flags, values: Values) -> Result<Computed, Stop
 }
 
 /// ADD to CMP by a width.
-#[inline]
+#[inline(always)]
 #[tactic(auto, using(crate::proofs::SizeOfWidth::size_of_width))]
 pub(crate) fn alu_by_width(
     op: AluOp,

@@ -9,18 +9,19 @@ ghost use Rattle.x86_step.specs.Steps.{registers_of};
 ghost use Rattle.x86_step.specs.declared.operand.Size.TheVariants as sizes;
 
 use crate::finish::{eip_after, store_word};
+use crate::numbers::number_in;
 use crate::operand::{Size, register};
 use crate::outcome::Way;
 use crate::stack::set_register;
 use mem_pages::Pages;
 use x86_meaning::Cpu;
 use x86_types::Reg;
-use x86_values::{Flags, Word, known};
+use x86_values::{Flags, Word};
 
 // Esp after a register was written.
-#[inline]
+#[inline(always)]
 #[tactic(auto, using(crate::proofs::Reading::esp_written, crate::proofs::Reading::esp_stays))]
-fn esp_after(regs: &[Word; 8], to: Reg, word: Word) -> Word
+pub(crate) fn esp_after(regs: &[Word; 8], to: Reg, word: Word) -> Word
     ensures { result ≡ with_register (number_of_reg to) word (registers_of regs.now) 4 }
 {
     match to {
@@ -30,12 +31,12 @@ fn esp_after(regs: &[Word; 8], to: Reg, word: Word) -> Word
 }
 
 /// Flags and a way alone; false where esp isn't known.
-#[inline]
+#[inline(always)]
 pub(crate) fn make_flags(flags: Flags, way: Way, len: u8, cpu: &mut Cpu, mem: &mut Pages) -> bool
     ensures made { MadeOrStays (registers_of cpu.old.regs) flags None way len result cpu.old (memory_in mem.old) cpu.new (memory_in mem.new) }
     ensures keeps { KeepsPages mem.old mem.new }
 {
-    match known(register(&cpu.regs, Reg::Esp)) {
+    match number_in(register(&cpu.regs, Reg::Esp)) {
         None => false,
         Some(esp) => {
             cpu.flags = flags;
@@ -47,7 +48,7 @@ pub(crate) fn make_flags(flags: Flags, way: Way, len: u8, cpu: &mut Cpu, mem: &m
 }
 
 /// A register has another word; false where esp isn't known then.
-#[inline]
+#[inline(always)]
 pub(crate) fn make_register(
     to: Reg,
     word: Word,
@@ -60,7 +61,7 @@ pub(crate) fn make_register(
     ensures made { MadeOrStays (with_register (number_of_reg to) word (registers_of cpu.old.regs)) flags None way len result cpu.old (memory_in mem.old) cpu.new (memory_in mem.new) }
     ensures keeps { KeepsPages mem.old mem.new }
 {
-    match known(esp_after(&cpu.regs, to, word)) {
+    match number_in(esp_after(&cpu.regs, to, word)) {
         None => false,
         Some(esp) => {
             set_register(&mut cpu.regs, to, word);
@@ -73,7 +74,7 @@ pub(crate) fn make_register(
 }
 
 /// A word is stored; false where esp isn't known, or the store isn't made.
-#[inline]
+#[inline(always)]
 pub(crate) fn make_store(
     at: u32,
     size: Size,
@@ -87,7 +88,7 @@ pub(crate) fn make_store(
     ensures made { MadeOrStays (registers_of cpu.old.regs) flags (Some (record { at = at; size = size; word = word })) way len result cpu.old (memory_in mem.old) cpu.new (memory_in mem.new) }
     ensures keeps { KeepsPages mem.old mem.new }
 {
-    match known(register(&cpu.regs, Reg::Esp)) {
+    match number_in(register(&cpu.regs, Reg::Esp)) {
         None => false,
         Some(esp) => match store_word(mem, at, size, word) {
             Err(_) => false,
@@ -102,7 +103,7 @@ pub(crate) fn make_store(
 }
 
 /// A word is stored and esp has another word; false where that isn't known, or the store isn't made.
-#[inline]
+#[inline(always)]
 pub(crate) fn make_push(
     at: u32,
     word: Word,
@@ -116,7 +117,7 @@ pub(crate) fn make_push(
     ensures made { MadeOrStays (with_register 4 esp (registers_of cpu.old.regs)) flags (Some (record { at = at; size = sizes.Four; word = word })) way len result cpu.old (memory_in mem.old) cpu.new (memory_in mem.new) }
     ensures keeps { KeepsPages mem.old mem.new }
 {
-    match known(esp) {
+    match number_in(esp) {
         None => false,
         Some(end) => match store_word(mem, at, Size::Four, word) {
             Err(_) => false,
@@ -132,7 +133,7 @@ pub(crate) fn make_push(
 }
 
 // Esp after it was written, and then a register.
-#[inline]
+#[inline(always)]
 #[tactic(auto, using(crate::proofs::Reading::esp_written, crate::proofs::Reading::esp_left))]
 fn esp_left(regs: &[Word; 8], to: Reg, word: Word, esp: Word) -> Word
     ensures { result ≡ with_register (number_of_reg to) word (with_register 4 esp (registers_of regs.now)) 4 }
@@ -145,7 +146,7 @@ fn esp_left(regs: &[Word; 8], to: Reg, word: Word, esp: Word) -> Word
 }
 
 /// Esp has another word, and then a register has; false where esp isn't known then.
-#[inline]
+#[inline(always)]
 pub(crate) fn make_pop(
     to: Reg,
     word: Word,
@@ -159,7 +160,7 @@ pub(crate) fn make_pop(
     ensures made { MadeOrStays (with_register (number_of_reg to) word (with_register 4 esp (registers_of cpu.old.regs))) flags None way len result cpu.old (memory_in mem.old) cpu.new (memory_in mem.new) }
     ensures keeps { KeepsPages mem.old mem.new }
 {
-    match known(esp_left(&cpu.regs, to, word, esp)) {
+    match number_in(esp_left(&cpu.regs, to, word, esp)) {
         None => false,
         Some(end) => {
             set_register(&mut cpu.regs, Reg::Esp, esp);

@@ -7,9 +7,10 @@ ghost use Rattle.x86_meaning.specs.Registers.{machine_naming};
 ghost use Rattle.x86_step.specs.Steps.{registers_of};
 ghost use Rattle.x86_step.specs.Transferred.{bytes_in_size, as_place, as_location};
 
+use crate::numbers::number_in;
 use x86_meaning::Cpu;
 use x86_types::{Address, Reg, Rm, Src, Width, reg_number};
-use x86_values::{Word, known};
+use x86_values::Word;
 
 /// How many bytes an operand has.
 #[derive(Clone, Copy)]
@@ -37,7 +38,7 @@ pub(crate) enum Location {
 }
 
 /// The size of a width.
-#[inline]
+#[inline(always)]
 pub(crate) fn size_of(width: Width) -> Size
     ensures { bytes_in_size result ≡ size_of width }
 {
@@ -49,7 +50,7 @@ pub(crate) fn size_of(width: Width) -> Size
 }
 
 /// The word in a register.
-#[inline]
+#[inline(always)]
 #[tactic(auto, using(crate::proofs::Reading::register_read))]
 pub(crate) fn register(regs: &[Word; 8], reg: Reg) -> Word
     ensures { result ≡ registers_of regs.now (number_of_reg reg) }
@@ -58,7 +59,7 @@ pub(crate) fn register(regs: &[Word; 8], reg: Reg) -> Word
 }
 
 /// The word in a register of a processor.
-#[inline]
+#[inline(always)]
 pub(crate) fn word_in(cpu: &Cpu, reg: Reg) -> Word
     ensures { result ≡ registers_of cpu.now.regs (number_of_reg reg) }
 {
@@ -66,7 +67,7 @@ pub(crate) fn word_in(cpu: &Cpu, reg: Reg) -> Word
 }
 
 /// The place that a register field names, by its width.
-#[inline]
+#[inline(always)]
 pub(crate) fn field(width: Width, reg: Reg) -> Place
     ensures { as_place result ≡ spec.field machine_naming width reg }
 {
@@ -87,18 +88,18 @@ pub(crate) fn field(width: Width, reg: Reg) -> Place
 }
 
 /// The number of a register that an address uses, and 0 where it uses none.
-#[inline]
+#[inline(always)]
 fn address_part(cpu: &Cpu, reg: Option<Reg>) -> Option<u32>
     ensures { result ≡ spec.address_part machine_naming (registers_of cpu.now.regs) reg }
 {
     match reg {
         None => Some(0),
-        Some(reg) => known(word_in(cpu, reg)),
+        Some(reg) => number_in(word_in(cpu, reg)),
     }
 }
 
 /// Base, index times scale and displacement, modulo 2^32.
-#[inline]
+#[inline(always)]
 fn address_sum(at: Address, base: u32, index: u32) -> u32
     ensures { spec.address_sum at (Some base) (Some index) ≡ Some result }
 {
@@ -107,7 +108,7 @@ fn address_sum(at: Address, base: u32, index: u32) -> u32
 }
 
 /// The address of an operand in memory; `None` where a byte of its registers is unspecified.
-#[inline]
+#[inline(always)]
 pub(crate) fn effective_address(cpu: &Cpu, at: Address) -> Option<u32>
     ensures { result ≡ spec.effective_address machine_naming (registers_of cpu.now.regs) at }
 {

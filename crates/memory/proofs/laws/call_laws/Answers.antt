@@ -6,6 +6,7 @@ returns c = record {
   by_buffer = calls.by_buffer;
   same_in_is_buffer = calls.same_in_is_buffer;
   are_plain = calls.are_plain;
+  show_one_event = calls.show_one_event;
   keep_environment = calls.keep_environment;
   leave_input = calls.leave_input;
 }

@@ -1,0 +1,16 @@
+mod Members
+mod Sets
+mod TableMaps
+mod Growth
+mod OneMore
+mod Runs
+mod Complete
+mod Found
+mod Settle
+mod MoreGiven
+mod TooMany
+mod AllSettled
+mod SameTables
+mod Whole
+mod StoredWords
+mod Begin

@@ -1,0 +1,9 @@
+pub mod Added
+pub mod Discovery
+pub mod Kept
+pub mod Popped
+pub mod Settled
+pub mod Single
+pub mod Tables
+pub mod Whole
+pub mod Words

@@ -1,0 +1,77 @@
+// The addresses that an image holds as words.
+ghost use Rattle.std.specs.Prelude.{◌≡◌, ◌+◌, ◌*◌, ◌%◌, ◌/◌, ◌<◌, ℕ, true, false, Contains, None, Some, IfErr, OnOk};
+ghost use Rattle.image.specs.Addresses.{can_run};
+ghost use Rattle.plan_types.specs.FoundCode.{Stands, word_at};
+ghost use Rattle.code_discovery.specs.Discovery.{IsTooMuch};
+ghost use Rattle.code_discovery.specs.Kept.{IsSoundSoFar};
+ghost use Rattle.code_discovery.specs.Settled.{IsSettling, IsClosed, KeepsFound, IsMore};
+ghost use Rattle.code_discovery.specs.Whole.{AreTablesApart, HasEntry, HasStored, TellsApart};
+ghost use Rattle.code_discovery.specs.Words.{IsStoredKept, AreStoredKept};
+
+use crate::DiscoverError;
+use crate::kept::Kept;
+use code_scan::IndexedImage;
+use image::{Segment, fits_wide_room, has_its_place};
+use plan_types::run_laws;
+
+impl Kept {
+    // Gives the address that stands as a word, outside the tables.
+    fn add_word(&mut self, scan: &IndexedImage, at: u32) -> Result<(), DiscoverError>
+        requires sound { IsSoundSoFar scan.now self.old }
+        requires stored { self.old.stored ≡ true }
+        requires apart { TellsApart scan.now self.old.tables }
+        requires aligned { at % 4 ≡ 0 }
+        ensures more { OnOk result (IsMore scan.now self.old self.new) }
+        ensures tables { OnOk result (self.new.tables ≡ self.old.tables) }
+        ensures kept { OnOk result (IsStoredKept scan.now self.new at) }
+        ensures refused { IfErr result (λ e. IsTooMuch scan.now e) }
+    {
+        let Some(word) = scan.word_at(at) else {
+            return Ok(());
+        };
+        if scan.can_run(word) && !self.has_procedure(word) && self.is_apart(at) {
+            self.add_procedure(scan, word)?;
+            self.check_count(scan)?;
+        }
+        Ok(())
+    }
+
+    // Gives those of a segment.
+    fn add_words(&mut self, scan: &IndexedImage, segment: &Segment) -> Result<(), DiscoverError>
+        requires sound { IsSoundSoFar scan.now self.old }
+        requires stored { self.old.stored ≡ true }
+        requires apart { TellsApart scan.now self.old.tables }
+        ensures more { OnOk result (IsMore scan.now self.old self.new) }
+        ensures tables { OnOk result (self.new.tables ≡ self.old.tables) }
+        ensures kept { OnOk result (AreStoredKept scan.now self.new segment.now) }
+        ensures refused { IfErr result (λ e. IsTooMuch scan.now e) }
+    {
+        has_its_place(segment);
+        for index in 0..segment.size / 4 {
+            self.add_word(scan, segment.start + 4 * index)?;
+        }
+        Ok(())
+    }
+
+    // Gives the addresses that the image holds as words, outside the tables of what is kept.
+    pub(crate) fn add_stored(&mut self, scan: &IndexedImage) -> Result<(), DiscoverError>
+        requires sound { IsSoundSoFar scan.now self.old }
+        requires closed { IsClosed scan.now self.old }
+        requires entry { HasEntry scan.now self.old }
+        requires stored { self.old.stored ≡ false }
+        ensures sound { OnOk result (IsSoundSoFar scan.now self.new) }
+        ensures settling { OnOk result (IsSettling scan.now self.new None) }
+        ensures grows { OnOk result (KeepsFound self.old self.new) }
+        ensures kept { OnOk result (HasStored scan.now self.new) }
+        ensures refused { IfErr result (λ e. IsTooMuch scan.now e) }
+    {
+        run_laws();
+        let image = scan.image();
+        fits_wide_room(image);
+        self.give_stored();
+        for segment in image.segments.as_slice() {
+            self.add_words(scan, segment)?;
+        }
+        Ok(())
+    }
+}

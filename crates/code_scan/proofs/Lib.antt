@@ -1,0 +1,6 @@
+pub mod Behind
+pub mod Copying
+pub mod Paging
+pub mod Reading
+pub mod Runs
+pub mod TableWords

@@ -1,0 +1,9 @@
+//! An instruction as text.
+#![tactic(auto)]
+
+mod instr_text;
+mod operand_text;
+#[cfg(test)]
+mod tests;
+
+pub use instr_text::InstrText;

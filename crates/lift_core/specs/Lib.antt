@@ -1,0 +1,7 @@
+pub mod Lifting
+pub mod Whole
+pub mod Pieces
+pub mod Lists
+pub mod Lengths
+pub mod Laws
+pub mod LiftRows

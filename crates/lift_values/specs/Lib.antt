@@ -1,0 +1,17 @@
+pub mod Terms
+pub mod Flags
+pub mod Sums
+pub mod Logic
+pub mod Products
+pub mod Divisions
+pub mod Extensions
+pub mod Scans
+pub mod Conditions
+pub mod CoreLaws
+pub mod CoreForms
+pub mod ShiftPieces
+pub mod Shifts
+pub mod DoubleShifts
+pub mod ShiftLaws
+pub mod ShiftCoreRows
+pub mod CoreRows

@@ -1,0 +1,13 @@
+mod Members
+mod Runs
+mod Tables
+mod Ordered
+mod Ways
+mod Within
+mod FoundLemmas
+mod Searching
+mod Reaching
+mod Walking
+mod Bodies
+mod Rows
+mod WorkedOrder

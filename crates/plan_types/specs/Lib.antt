@@ -1,0 +1,14 @@
+pub mod Ascending
+pub mod Body
+pub mod Contents
+pub mod FoundCode
+pub mod FoundLaws
+pub mod Leading
+pub mod LeadingRows
+pub mod Reached
+pub mod RunLaws
+pub mod Straight
+pub mod StraightRows
+pub mod TableRows
+pub mod Tables
+pub mod Worked

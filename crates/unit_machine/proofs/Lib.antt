@@ -1,0 +1,10 @@
+mod Words
+mod Computing
+mod Leaving
+mod Giving
+mod Runs
+mod Calling
+mod Moving
+mod Running
+mod Starting
+mod Counting

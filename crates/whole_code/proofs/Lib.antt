@@ -1,0 +1,13 @@
+mod Quiet
+mod Among
+mod UnitSide
+mod Blocks
+mod Beside
+mod Parts
+mod Numbering
+mod Growing
+mod WholeUnit
+mod Shapes
+mod FirstPage
+mod PlainPlaces
+mod OfImage
