@@ -1,0 +1,6 @@
+pub mod CodeRun
+pub mod CodeRows
+pub mod Form
+pub mod Items
+pub mod RowParts
+pub mod Running
