@@ -14,7 +14,7 @@ use Rattle.x86_meaning.specs.Transfers.{transfer}
 use Rattle.x86_meaning.specs.Effect.{accesses, effect}
 use Rattle.named_code.specs.Running.{act, code_next}
 use Rattle.named_code.specs.RowParts.{state_after}
-use Rattle.named_code.specs.CodeRows.{FieldRows, ItselfRows, JumpRows, MarkRows, EndRows, PlacedRows}
+use Rattle.named_code.specs.CodeRows.{FieldRows, ItselfRows, CodeJumpRows, MarkRows, EndRows, PlacedRows}
 
 pub field_rows : FieldRows
 unfolding compute word_of known all_known cut number has_even_parity sum difference add sub put put_all allows_all bytes_at with_register transfer accesses effect act code_next state_after bitwise run system_call read_call write_call
@@ -24,7 +24,7 @@ pub itself_rows : ItselfRows
 unfolding compute word_of known all_known cut number has_even_parity sum difference add sub put put_all allows_all bytes_at with_register transfer accesses effect act code_next state_after bitwise run system_call read_call write_call
 itself_rows = record { one_name = refl; two_names = refl; known_names = refl }
 
-pub jump_rows : JumpRows
+pub jump_rows : CodeJumpRows
 unfolding compute word_of known all_known cut number has_even_parity sum difference add sub put put_all allows_all bytes_at with_register transfer accesses effect act code_next state_after bitwise run system_call read_call write_call
 jump_rows = record { number = refl; by_number_alone = refl; not_taken = refl; taken = refl; old = refl; keeps_esp = refl; keeps_names = refl; loses_registers = refl; loses_flags = refl; no_number = refl; no_old = refl; zero = refl; end_of_block = refl; empty_block = refl; within = refl }
 

@@ -98,7 +98,7 @@ at_old a = standing_at (AtOld a) row_state
 abbrev pub end_at : CodePosition → Option End
 end_at p = end_of_move (code_next (λ k. 0) blocks p)
 
-pub record JumpRows : Type 0 where
+pub record CodeJumpRows : Type 0 where
   -- by its number, to the first block
   pub number : name_0_after 2 (from (jump 5 ∷ [])) ≡ Some 1
   pub by_number_alone : name_0_after 2 (from (jump 6 ∷ [])) ≡ Some 3
