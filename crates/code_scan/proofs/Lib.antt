@@ -3,4 +3,5 @@ pub mod Copying
 pub mod Paging
 pub mod Reading
 pub mod Runs
+pub mod Spans
 pub mod TableWords
