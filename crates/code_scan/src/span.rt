@@ -1,10 +1,12 @@
 // Between which addresses the bytes that can be run lie.
-ghost use Rattle.std.specs.Prelude.{◌≡◌, ◌<◌, ◌≤◌};
+ghost use Rattle.std.specs.Prelude.{◌≡◌, ℕ, ◌*◌, ◌<◌, ◌≤◌, false, length, IsTrue};
 ghost use Rattle.std.specs.List.{All};
+ghost use Rattle.byte_lists.specs.LittleEndian.{word_at};
 ghost use Rattle.code_scan.specs.Spans.{is_between, IsSpanned, IsCodeSpan};
 
 use crate::IndexedImage;
 use bitflags::Flags as _;
+use byte_lists::word_at;
 use image::{Perm, Segment, has_its_place};
 
 /// The address of the first byte that can be run, and the address behind the last. Between them may be others, which can't.
@@ -20,6 +22,18 @@ impl CodeSpan {
         ensures { result ≡ is_between at self.now }
     {
         self.start <= at && at < self.end
+    }
+
+    /// Whether none of the first words of some bytes is between the two.
+    pub fn has_none(&self, bytes: &[u8], count: usize) -> bool
+        requires { 4 * count ≤ length bytes.now }
+        ensures { IsTrue result → (index : ℕ) → index < count → is_between (word_at bytes.now (4 * index)) self.now ≡ false }
+    {
+        let mut none = true;
+        for index in 0..count {
+            none &= !self.has(word_at(bytes, 4 * index));
+        }
+        none
     }
 
     // The span, made wider so that it has a segment, if that can be run.
