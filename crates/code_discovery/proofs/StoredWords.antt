@@ -56,6 +56,13 @@ page_kept image k span page bytes count around sized all words done index low = 
       far_kept image k span (page + 4 * index) 0 around (λ a there. words index a low there ∙ zero) (zero_far span around.above)
 ]
 
+pub far_page_kept : (image : Image) (k : FoundSoFar) (span : CodeSpan) (page : ℕ) (bytes : List ℕ) → IsCodeSpan image span → length bytes % 4096 ≡ 0
+    → ((index word : ℕ) → index < 1024 → word_at image (page + 4 * index) ≡ Some word → word ≡ lists.word_at bytes (4 * index))
+    → ((index : ℕ) → index < min (length bytes / 4) 1024 → is_between (lists.word_at bytes (4 * index)) span ≡ false) → IsPageKept image k page
+far_page_kept image k span page bytes around sized words far =
+    page_kept image k span page bytes (min (length bytes / 4) 1024) around sized (omega arith) words
+    (λ i low. far_kept image k span (page + 4 * i) (lists.word_at bytes (4 * i)) around (λ a there. words i a (omega arith) there) (far i low))
+
 -- a word of a segment is one of a page
 pub pages_kept : (image : Image) (k : FoundSoFar) (s : Segment) (count : ℕ) → s.size % 4096 ≡ 0 → s.size / 4096 ≤ count → ((p : ℕ) → p < count → IsPageKept image k (s.start + 4096 * p)) → AreStoredKept image k s
 pages_kept image k s count sized all done index low =

@@ -63,8 +63,8 @@ impl Kept {
         Ok(())
     }
 
-    // Gives those of a page.
-    fn add_page(
+    // Gives those of a page, word by word.
+    fn add_page_words(
         &mut self,
         scan: &IndexedImage,
         span: CodeSpan,
@@ -86,6 +86,30 @@ impl Kept {
             self.add_near_word(scan, span, word, page + 4 * index as u32)?;
         }
         Ok(())
+    }
+
+    // Gives those of a page. On most pages no word is near code, which one walk over them shows.
+    fn add_page(
+        &mut self,
+        scan: &IndexedImage,
+        span: CodeSpan,
+        page: u32,
+    ) -> Result<(), DiscoverError>
+        requires sound { IsSoundSoFar scan.now self.old }
+        requires stored { self.old.stored ≡ true }
+        requires apart { TellsApart scan.now self.old.tables }
+        requires span { IsCodeSpan scan.now span }
+        requires aligned { page % 4096 ≡ 0 }
+        ensures more { OnOk result (IsMore scan.now self.old self.new) }
+        ensures tables { OnOk result (self.new.tables ≡ self.old.tables) }
+        ensures kept { OnOk result (IsPageKept scan.now self.new page) }
+        ensures refused { IfErr result (λ e. IsTooMuch scan.now e) }
+    {
+        let bytes = scan.bytes_from(page);
+        if span.has_none(bytes, (bytes.len() / 4).min(1024)) {
+            return Ok(());
+        }
+        self.add_page_words(scan, span, page)
     }
 
     // Gives those of a segment.

@@ -1,7 +1,7 @@
 use Rattle.std.proofs.Common.{◌≡◌, ℕ, ◌+◌, ◌*◌, ◌<◌}
 use Rattle.code_discovery.specs.Settled.{IsMore}
 use Rattle.code_discovery.specs.Words.{IsStoredKept}
-use Rattle.code_discovery.proofs.kept.Kept.add_page.Given as goal
+use Rattle.code_discovery.proofs.kept.Kept.add_page_words.Given as goal
 
 abbrev pub invariant-loop-index : goal.invariant-loop-index
 invariant-loop-index l = record {
