@@ -1,7 +1,9 @@
 -- Each aligned word of an image is looked at.
-use Rattle.std.proofs.Common.{◌≡◌, ℕ, ◌+◌, ◌-◌, ◌*◌, ◌/◌, ◌%◌, ◌<◌, ◌≤◌, Bool, true, false, cond, List, [], ◌∷◌, find, Contains, Option, Some, None, refl, subst, arith}
+use Rattle.std.proofs.Common.{◌≡◌, ℕ, ◌+◌, ◌-◌, ◌*◌, ◌/◌, ◌%◌, ◌<◌, ◌≤◌, min, length, slice_index, Bool, true, false, cond, List, [], ◌∷◌, find, Contains, Option, Some, None, refl, sym, ap, ◌∙◌, subst, arith, inl, inr}
 use Rattle.std.specs.Option.{option_map}
+use Rattle.std.proofs.lemmas.Bool.{cases_lt}
 use Rattle.std.proofs.lemmas.Bool.Decides.{nat_tests}
+use Rattle.std.proofs.lemmas.List.{get_or_past}
 use Rattle.std.proofs.lemmas.List.Elements.{All-from_recursion, All-contains}
 use Rattle.image.specs.declared.image.Image.{Image}
 use Rattle.image.specs.declared.image.Segment.{Segment}
@@ -10,10 +12,13 @@ use Rattle.image.specs.Wanted.{HasItsPlace, FitsWideRoom}
 use Rattle.plan_types.specs.declared.table.Table.{Table}
 use Rattle.plan_types.specs.Tables.{word_with}
 use Rattle.plan_types.specs.FoundCode.{IsTableFrom, word_at}
+use Rattle.byte_lists.specs.LittleEndian as lists
+use Rattle.code_scan.specs.declared.span.CodeSpan.{CodeSpan}
+use Rattle.code_scan.specs.Spans.{is_between, IsCodeSpan}
 use Rattle.code_discovery.specs.Kept.{FoundSoFar, GivenIn, IsSoundSoFar}
 use Rattle.code_discovery.specs.Settled.{KeepsFound}
 use Rattle.code_discovery.specs.Whole.{AreTablesApart, HasStored}
-use Rattle.code_discovery.specs.Words.{IsStoredKept, AreStoredKept}
+use Rattle.code_discovery.specs.Words.{IsStoredKept, IsPageKept, AreStoredKept}
 use Rattle.code_discovery.proofs.Members.{head_in, tail_in}
 use Rattle.code_discovery.proofs.Whole.{none_given}
 
@@ -21,6 +26,48 @@ pub stored_still : (image : Image) (old new : FoundSoFar) → KeepsFound old new
 stored_still image old new more same at done = record {
   kept = λ a word runs apart s. more.procs a (done.kept a word runs (subst (λ (ts : List Table). AreTablesApart ts at) same apart) s);
 }
+
+-- where no byte that can be run is around the word's address, nothing is given
+pub far_kept : (image : Image) (k : FoundSoFar) (span : CodeSpan) (at word : ℕ) → IsCodeSpan image span → ((a : ℕ) → word_at image at ≡ Some a → a ≡ word) → is_between word span ≡ false → IsStoredKept image k at
+far_kept image k span at word around is far = record {
+  kept = λ a there runs apart s.
+      let near : is_between word span ≡ true = ap (λ n. is_between n span) (sym (is a there)) ∙ around.spans a runs in
+      let both : false ≡ true = sym far ∙ near in
+      absurd cc;
+}
+
+-- behind the bytes that a page has stand words that are 0
+no_bytes : (bytes : List ℕ) (i : ℕ) → length bytes ≤ i → lists.word_at bytes i ≡ 0
+no_bytes bytes i past =
+    let b : (k : ℕ) → slice_index bytes (i + k) ≡ 0 = λ k. get_or_past bytes (i + k) 0 (omega arith) in
+    let b0 : slice_index bytes i ≡ 0 = get_or_past bytes i 0 past in
+    omega (arith, b0, b 1, b 2, b 3)
+
+zero_far : (span : CodeSpan) → 0 < span.start → is_between 0 span ≡ false
+zero_far span above = grind (arith, nat_tests)
+
+pub page_kept : (image : Image) (k : FoundSoFar) (span : CodeSpan) (page : ℕ) (bytes : List ℕ) (count : ℕ) → IsCodeSpan image span → length bytes % 4096 ≡ 0 → min (length bytes / 4) 1024 ≤ count
+    → ((index word : ℕ) → index < 1024 → word_at image (page + 4 * index) ≡ Some word → word ≡ lists.word_at bytes (4 * index))
+    → ((i : ℕ) → i < count → IsStoredKept image k (page + 4 * i)) → IsPageKept image k page
+page_kept image k span page bytes count around sized all words done index low = elim (cases_lt index count) [
+  | inl before ↦ done index before
+  | inr behind ↦
+      let zero : lists.word_at bytes (4 * index) ≡ 0 = no_bytes bytes (4 * index) (omega arith) in
+      far_kept image k span (page + 4 * index) 0 around (λ a there. words index a low there ∙ zero) (zero_far span around.above)
+]
+
+pub far_page_kept : (image : Image) (k : FoundSoFar) (span : CodeSpan) (page : ℕ) (bytes : List ℕ) → IsCodeSpan image span → length bytes % 4096 ≡ 0
+    → ((index word : ℕ) → index < 1024 → word_at image (page + 4 * index) ≡ Some word → word ≡ lists.word_at bytes (4 * index))
+    → ((index : ℕ) → index < min (length bytes / 4) 1024 → is_between (lists.word_at bytes (4 * index)) span ≡ false) → IsPageKept image k page
+far_page_kept image k span page bytes around sized words far =
+    page_kept image k span page bytes (min (length bytes / 4) 1024) around sized (omega arith) words
+    (λ i low. far_kept image k span (page + 4 * i) (lists.word_at bytes (4 * i)) around (λ a there. words i a (omega arith) there) (far i low))
+
+-- a word of a segment is one of a page
+pub pages_kept : (image : Image) (k : FoundSoFar) (s : Segment) (count : ℕ) → s.size % 4096 ≡ 0 → s.size / 4096 ≤ count → ((p : ℕ) → p < count → IsPageKept image k (s.start + 4096 * p)) → AreStoredKept image k s
+pages_kept image k s count sized all done index low =
+    let at : s.start + 4096 * (index / 1024) + 4 * (index % 1024) ≡ s.start + 4 * index = omega arith in
+    subst (λ n. IsStoredKept image k n) at (done (index / 1024) (omega arith) (index % 1024) (omega arith))
 
 -- the first that passes a test is one, and passes it
 found_in : {X : Type 0} (test : X → Bool) (xs : List X) (x : X) → find test xs ≡ Some x → Contains xs x × (test x ≡ true)

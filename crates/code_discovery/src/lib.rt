@@ -8,9 +8,13 @@ mod discover_error;
 mod discovery;
 mod kept;
 mod leading;
+#[cfg(test)]
+mod leading_rows;
 mod settling;
 mod stored;
 mod table_map;
+#[cfg(test)]
+mod table_rows;
 #[cfg(test)]
 mod tests;
 mod work;

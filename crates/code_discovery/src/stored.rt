@@ -6,11 +6,13 @@ ghost use Rattle.code_discovery.specs.Discovery.{IsTooMuch};
 ghost use Rattle.code_discovery.specs.Kept.{IsSoundSoFar};
 ghost use Rattle.code_discovery.specs.Settled.{IsSettling, IsClosed, KeepsFound, IsMore};
 ghost use Rattle.code_discovery.specs.Whole.{AreTablesApart, HasEntry, HasStored, TellsApart};
-ghost use Rattle.code_discovery.specs.Words.{IsStoredKept, AreStoredKept};
+ghost use Rattle.code_scan.specs.Spans.{IsCodeSpan};
+ghost use Rattle.code_discovery.specs.Words.{IsStoredKept, IsPageKept, AreStoredKept};
 
 use crate::DiscoverError;
 use crate::kept::Kept;
-use code_scan::IndexedImage;
+use byte_lists::word_at;
+use code_scan::{CodeSpan, IndexedImage};
 use image::{Segment, fits_wide_room, has_its_place};
 use plan_types::run_laws;
 
@@ -36,19 +38,99 @@ impl Kept {
         Ok(())
     }
 
-    // Gives those of a segment.
-    fn add_words(&mut self, scan: &IndexedImage, segment: &Segment) -> Result<(), DiscoverError>
+    // The same, of an address that stands as this word. It is looked at only where bytes that can be run are around the address.
+    fn add_near_word(
+        &mut self,
+        scan: &IndexedImage,
+        span: CodeSpan,
+        word: u32,
+        at: u32,
+    ) -> Result<(), DiscoverError>
         requires sound { IsSoundSoFar scan.now self.old }
         requires stored { self.old.stored ≡ true }
         requires apart { TellsApart scan.now self.old.tables }
+        requires aligned { at % 4 ≡ 0 }
+        requires span { IsCodeSpan scan.now span }
+        requires word { (a : ℕ) → word_at scan.now at ≡ Some a → a ≡ word }
+        ensures more { OnOk result (IsMore scan.now self.old self.new) }
+        ensures tables { OnOk result (self.new.tables ≡ self.old.tables) }
+        ensures kept { OnOk result (IsStoredKept scan.now self.new at) }
+        ensures refused { IfErr result (λ e. IsTooMuch scan.now e) }
+    {
+        if span.has(word) {
+            self.add_word(scan, at)?;
+        }
+        Ok(())
+    }
+
+    // Gives those of a page, word by word.
+    fn add_page_words(
+        &mut self,
+        scan: &IndexedImage,
+        span: CodeSpan,
+        page: u32,
+    ) -> Result<(), DiscoverError>
+        requires sound { IsSoundSoFar scan.now self.old }
+        requires stored { self.old.stored ≡ true }
+        requires apart { TellsApart scan.now self.old.tables }
+        requires span { IsCodeSpan scan.now span }
+        requires aligned { page % 4096 ≡ 0 }
+        ensures more { OnOk result (IsMore scan.now self.old self.new) }
+        ensures tables { OnOk result (self.new.tables ≡ self.old.tables) }
+        ensures kept { OnOk result (IsPageKept scan.now self.new page) }
+        ensures refused { IfErr result (λ e. IsTooMuch scan.now e) }
+    {
+        let bytes = scan.bytes_from(page);
+        for index in 0..(bytes.len() / 4).min(1024) {
+            let word = word_at(bytes, 4 * index);
+            self.add_near_word(scan, span, word, page + 4 * index as u32)?;
+        }
+        Ok(())
+    }
+
+    // Gives those of a page. On most pages no word is near code, which one walk over them shows.
+    fn add_page(
+        &mut self,
+        scan: &IndexedImage,
+        span: CodeSpan,
+        page: u32,
+    ) -> Result<(), DiscoverError>
+        requires sound { IsSoundSoFar scan.now self.old }
+        requires stored { self.old.stored ≡ true }
+        requires apart { TellsApart scan.now self.old.tables }
+        requires span { IsCodeSpan scan.now span }
+        requires aligned { page % 4096 ≡ 0 }
+        ensures more { OnOk result (IsMore scan.now self.old self.new) }
+        ensures tables { OnOk result (self.new.tables ≡ self.old.tables) }
+        ensures kept { OnOk result (IsPageKept scan.now self.new page) }
+        ensures refused { IfErr result (λ e. IsTooMuch scan.now e) }
+    {
+        let bytes = scan.bytes_from(page);
+        if span.has_none(bytes, (bytes.len() / 4).min(1024)) {
+            return Ok(());
+        }
+        self.add_page_words(scan, span, page)
+    }
+
+    // Gives those of a segment.
+    fn add_words(
+        &mut self,
+        scan: &IndexedImage,
+        span: CodeSpan,
+        segment: &Segment,
+    ) -> Result<(), DiscoverError>
+        requires sound { IsSoundSoFar scan.now self.old }
+        requires stored { self.old.stored ≡ true }
+        requires apart { TellsApart scan.now self.old.tables }
+        requires span { IsCodeSpan scan.now span }
         ensures more { OnOk result (IsMore scan.now self.old self.new) }
         ensures tables { OnOk result (self.new.tables ≡ self.old.tables) }
         ensures kept { OnOk result (AreStoredKept scan.now self.new segment.now) }
         ensures refused { IfErr result (λ e. IsTooMuch scan.now e) }
     {
         has_its_place(segment);
-        for index in 0..segment.size / 4 {
-            self.add_word(scan, segment.start + 4 * index)?;
+        for page in 0..segment.size / 4096 {
+            self.add_page(scan, span, segment.start + 4096 * page)?;
         }
         Ok(())
     }
@@ -68,9 +150,10 @@ impl Kept {
         run_laws();
         let image = scan.image();
         fits_wide_room(image);
+        let span = scan.code_span();
         self.give_stored();
         for segment in image.segments.as_slice() {
-            self.add_words(scan, segment)?;
+            self.add_words(scan, span, segment)?;
         }
         Ok(())
     }

@@ -1,23 +1,29 @@
 // What no clause says: that the allocating calls succeed with ample memory, and what is found in small images, worked by hand.
-ghost use Rattle.std.specs.Prelude.{◌≡◌, length, IfOk};
+ghost use Rattle.std.specs.Prelude.{◌≡◌, ◌<◌, length, IfOk};
 
-use crate::discover;
+use crate::leading_rows::LEADING_ROWS;
+use crate::table_rows::TABLE_ROWS;
+use crate::{DiscoverError, discover};
 use byte_lists::ByteList;
 use image::{Image, Perm, Segment, SegmentList};
+use plan_types::body;
 use std::alloc::{AllocError, Global};
+use std::process::Abort;
 use std::test::Fail;
 
-// What is written into three pages, and what is found.
-struct Row {
-    name: &'static str,
-    bytes: &'static [u8],
-    end: &'static [u8],
-    words: &'static [u8],
-    words_end: &'static [u8],
-    data: &'static [u8],
-    code: &'static [u32],
-    procs: &'static [u32],
-    table: Option<(u32, &'static [u32])>,
+// What is written into pages, of which the first has its code at an address, and what is found. A table is that of a jump, with its
+// address and its targets.
+pub(crate) struct Row {
+    pub name: &'static str,
+    pub at: u32,
+    pub bytes: &'static [u8],
+    pub end: &'static [u8],
+    pub words: &'static [u8],
+    pub words_end: &'static [u8],
+    pub data: &'static [u8],
+    pub code: &'static [u32],
+    pub procs: &'static [u32],
+    pub table: Option<(u32, u32, &'static [u32])>,
 }
 
 // A page that begins and ends with these bytes. Between them stand bytes that spell no instruction (HLT).
@@ -34,7 +40,7 @@ fn page_of(alloc: Global, front: &[u8], back: &[u8]) -> Result<Vec<u8>, AllocErr
 }
 
 // A page of code at 0x1000, one that can only be read at 0x2000, and one that can be written too at 0x3000.
-fn image_of(alloc: Global, row: &Row) -> Result<Image, AllocError> {
+fn low_image(alloc: Global, row: &Row) -> Result<Image, AllocError> {
     let code = Segment {
         start: 0x1000,
         size: 0x1000,
@@ -59,459 +65,100 @@ fn image_of(alloc: Global, row: &Row) -> Result<Image, AllocError> {
     })
 }
 
-static ROWS: [Row; 39] = [
-    Row {
-        name: "nothing stands at the entry",
-        bytes: b"\xF4",
-        end: b"",
-        words: b"",
-        words_end: b"",
-        data: b"",
-        code: &[],
-        procs: &[],
-        table: None,
-    },
-    Row {
-        name: "one instruction",
-        bytes: b"\xC3",
-        end: b"",
-        words: b"",
-        words_end: b"",
-        data: b"",
-        code: &[0x1000],
-        procs: &[0x1000],
-        table: None,
-    },
-    Row {
-        name: "nothing stands behind an instruction",
-        bytes: b"\x40\xF4",
-        end: b"",
-        words: b"",
-        words_end: b"",
-        data: b"",
-        code: &[0x1000],
-        procs: &[0x1000],
-        table: None,
-    },
-    Row {
-        name: "a jump",
-        bytes: b"\xEB\x01\xF4\xC3",
-        end: b"",
-        words: b"",
-        words_end: b"",
-        data: b"",
-        code: &[0x1000, 0x1003],
-        procs: &[0x1000],
-        table: None,
-    },
-    Row {
-        name: "a jump back",
-        bytes: b"\x40\xEB\xFD",
-        end: b"",
-        words: b"",
-        words_end: b"",
-        data: b"",
-        code: &[0x1000, 0x1001],
-        procs: &[0x1000],
-        table: None,
-    },
-    Row {
-        name: "both ways of a condition",
-        bytes: b"\x74\x01\xC3\xC3",
-        end: b"",
-        words: b"",
-        words_end: b"",
-        data: b"",
-        code: &[0x1000, 0x1002, 0x1003],
-        procs: &[0x1000],
-        table: None,
-    },
-    Row {
-        name: "a call and the place behind it",
-        bytes: b"\xE8\x01\x00\x00\x00\xC3\xC3",
-        end: b"",
-        words: b"",
-        words_end: b"",
-        data: b"",
-        code: &[0x1000, 0x1005, 0x1006],
-        procs: &[0x1000, 0x1006],
-        table: None,
-    },
-    Row {
-        name: "a call of a register",
-        bytes: b"\xFF\xD0\xC3",
-        end: b"",
-        words: b"",
-        words_end: b"",
-        data: b"",
-        code: &[0x1000, 0x1002],
-        procs: &[0x1000],
-        table: None,
-    },
-    Row {
-        name: "a call through memory",
-        bytes: b"\xFF\x15\x00\x30\x00\x00\xC3",
-        end: b"",
-        words: b"",
-        words_end: b"",
-        data: b"",
-        code: &[0x1000, 0x1006],
-        procs: &[0x1000],
-        table: None,
-    },
-    Row {
-        name: "a call to where nothing stands",
-        bytes: b"\xE8\x00\x01\x00\x00\xC3",
-        end: b"",
-        words: b"",
-        words_end: b"",
-        data: b"",
-        code: &[0x1000, 0x1005],
-        procs: &[0x1000],
-        table: None,
-    },
-    Row {
-        name: "a call at the end of a page",
-        bytes: b"\xE9\xF6\x0F\x00\x00",
-        end: b"\xE8\xFB\xFF\xFF\xFF",
-        words: b"",
-        words_end: b"",
-        data: b"",
-        code: &[0x1000, 0x1FFB],
-        procs: &[0x1000, 0x1FFB],
-        table: None,
-    },
-    Row {
-        name: "code at the last address",
-        bytes: b"\xE9\xFA\x0F\x00\x00",
-        end: b"\xC3",
-        words: b"",
-        words_end: b"",
-        data: b"",
-        code: &[0x1000, 0x1FFF],
-        procs: &[0x1000],
-        table: None,
-    },
-    Row {
-        name: "an instruction that the end of the page cuts off",
-        bytes: b"\xE9\xF9\x0F\x00\x00",
-        end: b"\xB8\x10",
-        words: b"",
-        words_end: b"",
-        data: b"",
-        code: &[0x1000],
-        procs: &[0x1000],
-        table: None,
-    },
-    Row {
-        name: "instructions that overlap",
-        bytes: b"\xEB\xFF\xC0\xC3",
-        end: b"",
-        words: b"",
-        words_end: b"",
-        data: b"",
-        code: &[0x1000, 0x1001, 0x1003],
-        procs: &[0x1000],
-        table: None,
-    },
-    Row {
-        name: "MOV of an address of code",
-        bytes: b"\xB8\x06\x10\x00\x00\xC3\xC3",
-        end: b"",
-        words: b"",
-        words_end: b"",
-        data: b"",
-        code: &[0x1000, 0x1005, 0x1006],
-        procs: &[0x1000, 0x1006],
-        table: None,
-    },
-    Row {
-        name: "MOV of an address that can't be run",
-        bytes: b"\xB8\x00\x20\x00\x00\xC3",
-        end: b"",
-        words: b"",
-        words_end: b"",
-        data: b"",
-        code: &[0x1000, 0x1005],
-        procs: &[0x1000],
-        table: None,
-    },
-    Row {
-        name: "MOV of one byte",
-        bytes: b"\xB0\x06\xC3",
-        end: b"",
-        words: b"",
-        words_end: b"",
-        data: b"",
-        code: &[0x1000, 0x1002],
-        procs: &[0x1000],
-        table: None,
-    },
-    Row {
-        name: "PUSH of an address of code",
-        bytes: b"\x68\x06\x10\x00\x00\xC3\xC3",
-        end: b"",
-        words: b"",
-        words_end: b"",
-        data: b"",
-        code: &[0x1000, 0x1005, 0x1006],
-        procs: &[0x1000, 0x1006],
-        table: None,
-    },
-    Row {
-        name: "LEA without registers",
-        bytes: b"\x8D\x05\x07\x10\x00\x00\xC3\xC3",
-        end: b"",
-        words: b"",
-        words_end: b"",
-        data: b"",
-        code: &[0x1000, 0x1006, 0x1007],
-        procs: &[0x1000, 0x1007],
-        table: None,
-    },
-    Row {
-        name: "LEA of two bytes without registers",
-        bytes: b"\x66\x8D\x05\x08\x10\x00\x00\xC3\xC3",
-        end: b"",
-        words: b"",
-        words_end: b"",
-        data: b"",
-        code: &[0x1000, 0x1007, 0x1008],
-        procs: &[0x1000, 0x1008],
-        table: None,
-    },
-    Row {
-        name: "LEA with a register",
-        bytes: b"\x8D\x80\x07\x10\x00\x00\xC3\xC3",
-        end: b"",
-        words: b"",
-        words_end: b"",
-        data: b"",
-        code: &[0x1000, 0x1006],
-        procs: &[0x1000],
-        table: None,
-    },
-    Row {
-        name: "a table without CMP",
-        bytes: b"\xFF\x24\x8D\x00\x20\x00\x00\xC3\xC3",
-        end: b"",
-        words: b"\x07\x10\x00\x00\x08\x10\x00\x00",
-        words_end: b"",
-        data: b"",
-        code: &[0x1000, 0x1007, 0x1008],
-        procs: &[0x1000],
-        table: Some((0x1000, &[0x1007, 0x1008])),
-    },
-    Row {
-        name: "a table that begins with no address of code",
-        bytes: b"\xFF\x24\x8D\x00\x20\x00\x00",
-        end: b"",
-        words: b"\x00\x00\x00\x00",
-        words_end: b"",
-        data: b"",
-        code: &[0x1000],
-        procs: &[0x1000],
-        table: Some((0x1000, &[])),
-    },
-    Row {
-        name: "a jump with a base",
-        bytes: b"\xFF\x24\x88",
-        end: b"",
-        words: b"",
-        words_end: b"",
-        data: b"",
-        code: &[0x1000],
-        procs: &[0x1000],
-        table: None,
-    },
-    Row {
-        name: "a jump of scale 2",
-        bytes: b"\xFF\x24\x4D\x00\x20\x00\x00",
-        end: b"",
-        words: b"",
-        words_end: b"",
-        data: b"",
-        code: &[0x1000],
-        procs: &[0x1000],
-        table: None,
-    },
-    Row {
-        name: "a table with CMP",
-        bytes: b"\x83\xF9\x01\x77\x07\xFF\x24\x8D\x00\x20\x00\x00\xC3",
-        end: b"",
-        words: b"\x0C\x10\x00\x00\x00\x10\x00\x00",
-        words_end: b"",
-        data: b"",
-        code: &[0x1000, 0x1003, 0x1005, 0x100C],
-        procs: &[0x1000],
-        table: Some((0x1005, &[0x100C, 0x1000])),
-    },
-    Row {
-        name: "a table whose CMP allows a word that leads to no code",
-        bytes: b"\x83\xF9\x01\x77\x07\xFF\x24\x8D\x00\x20\x00\x00\xC3",
-        end: b"",
-        words: b"\x0C\x10\x00\x00\x00\x20\x00\x00",
-        words_end: b"",
-        data: b"",
-        code: &[0x1000, 0x1003, 0x1005, 0x100C],
-        procs: &[0x1000],
-        table: Some((0x1005, &[0x100C, 0x2000])),
-    },
-    Row {
-        name: "CMP of another register",
-        bytes: b"\x83\xFA\x00\x77\x07\xFF\x24\x8D\x00\x20\x00\x00\xC3",
-        end: b"",
-        words: b"\x0C\x10\x00\x00\x0C\x10\x00\x00",
-        words_end: b"",
-        data: b"",
-        code: &[0x1000, 0x1003, 0x1005, 0x100C],
-        procs: &[0x1000],
-        table: Some((0x1005, &[0x100C, 0x100C])),
-    },
-    Row {
-        name: "CMP without JA",
-        bytes: b"\x83\xF9\x00\x74\x07\xFF\x24\x8D\x00\x20\x00\x00\xC3",
-        end: b"",
-        words: b"\x0C\x10\x00\x00\x0C\x10\x00\x00",
-        words_end: b"",
-        data: b"",
-        code: &[0x1000, 0x1003, 0x1005, 0x100C],
-        procs: &[0x1000],
-        table: Some((0x1005, &[0x100C, 0x100C])),
-    },
-    Row {
-        name: "CMP eight instructions before the jump; a word behind the table",
-        bytes: b"\x83\xF9\x00\x77\x0D\x40\x40\x40\x40\x40\x40\xFF\x24\x8D\x00\x20\x00\x00\xC3",
-        end: b"",
-        words: b"\x12\x10\x00\x00\x12\x10\x00\x00",
-        words_end: b"",
-        data: b"",
-        code: &[
-            0x1000, 0x1003, 0x1005, 0x1006, 0x1007, 0x1008, 0x1009, 0x100A, 0x100B, 0x1012,
-        ],
-        procs: &[0x1000, 0x1012],
-        table: Some((0x100B, &[0x1012])),
-    },
-    Row {
-        name: "CMP nine instructions before the jump",
-        bytes: b"\x83\xF9\x00\x77\x0E\x40\x40\x40\x40\x40\x40\x40\xFF\x24\x8D\x00\x20\x00\x00\xC3",
-        end: b"",
-        words: b"\x13\x10\x00\x00\x13\x10\x00\x00",
-        words_end: b"",
-        data: b"",
-        code: &[
-            0x1000, 0x1003, 0x1005, 0x1006, 0x1007, 0x1008, 0x1009, 0x100A, 0x100B, 0x100C, 0x1013,
-        ],
-        procs: &[0x1000],
-        table: Some((0x100C, &[0x1013, 0x1013])),
-    },
-    Row {
-        name: "a jump in two runs, of which one has the CMP",
-        bytes: b"\x83\xF9\x01\x77\x07\xFF\x24\x8D\x00\x20\x00\x00\xC3",
-        end: b"",
-        words: b"\x0C\x10\x00\x00\x00\x10\x00\x00\x00\x10\x00\x00",
-        words_end: b"",
-        data: b"\x05\x10\x00\x00",
-        code: &[0x1000, 0x1003, 0x1005, 0x100C],
-        procs: &[0x1000, 0x1005],
-        table: Some((0x1005, &[0x100C, 0x1000, 0x1000])),
-    },
-    Row {
-        name: "a call between CMP and the jump",
-        bytes: b"\x83\xF9\x00\x77\x0C\xE8\x07\x00\x00\x00\xFF\x24\x8D\x00\x20\x00\x00\xC3",
-        end: b"",
-        words: b"\x11\x10\x00\x00\x11\x10\x00\x00",
-        words_end: b"",
-        data: b"",
-        code: &[0x1000, 0x1003, 0x1005, 0x100A, 0x1011],
-        procs: &[0x1000, 0x1011],
-        table: Some((0x100A, &[0x1011, 0x1011])),
-    },
-    Row {
-        name: "a table that a page that can be written cuts off",
-        bytes: b"\xFF\x24\x8D\xFC\x2F\x00\x00\xC3\xC3",
-        end: b"",
-        words: b"",
-        words_end: b"\x07\x10\x00\x00",
-        data: b"\x08\x10\x00\x00",
-        code: &[0x1000, 0x1007, 0x1008],
-        procs: &[0x1000, 0x1008],
-        table: Some((0x1000, &[0x1007])),
-    },
-    Row {
-        name: "a target in the middle of an instruction",
-        bytes: b"\xFF\x24\x8D\x00\x20\x00\x00\xB8\x40\xC3\x00\x00\xC3",
-        end: b"",
-        words: b"\x07\x10\x00\x00\x08\x10\x00\x00",
-        words_end: b"",
-        data: b"",
-        code: &[0x1000, 0x1007, 0x1008, 0x1009, 0x100C],
-        procs: &[0x1000],
-        table: Some((0x1000, &[0x1007, 0x1008])),
-    },
-    Row {
-        name: "an address in data",
-        bytes: b"\xC3\xF4\xF4\xF4\xC3",
-        end: b"",
-        words: b"",
-        words_end: b"",
-        data: b"\x04\x10\x00\x00",
-        code: &[0x1000, 0x1004],
-        procs: &[0x1000, 0x1004],
-        table: None,
-    },
-    Row {
-        name: "an address in data at no multiple of four",
-        bytes: b"\xC3\xF4\xF4\xF4\xC3",
-        end: b"",
-        words: b"",
-        words_end: b"",
-        data: b"\x00\x00\x04\x10\x00\x00",
-        code: &[0x1000],
-        procs: &[0x1000],
-        table: None,
-    },
-    Row {
-        name: "an address in data where nothing stands",
-        bytes: b"\xC3",
-        end: b"",
-        words: b"",
-        words_end: b"",
-        data: b"\x04\x10\x00\x00",
-        code: &[0x1000],
-        procs: &[0x1000],
-        table: None,
-    },
-    Row {
-        name: "a stored procedure leads on",
-        bytes: b"\xC3\xF4\xF4\xF4\xE8\x01\x00\x00\x00\xC3\xC3",
-        end: b"",
-        words: b"",
-        words_end: b"",
-        data: b"\x04\x10\x00\x00",
-        code: &[0x1000, 0x1004, 0x1009, 0x100A],
-        procs: &[0x1000, 0x1004, 0x100A],
-        table: None,
-    },
-];
+// A page of code at 0x08049000, and one behind it that can be written.
+fn high_image(alloc: Global, row: &Row) -> Result<Image, AllocError> {
+    let code = Segment {
+        start: 0x0804_9000,
+        size: 0x1000,
+        perm: Perm(5),
+        bytes: ByteList::new(page_of(alloc, row.bytes, row.end)?),
+    };
+    let data = Segment {
+        start: 0x0804_A000,
+        size: 0x1000,
+        perm: Perm(6),
+        bytes: ByteList::new(page_of(alloc, row.data, b"")?),
+    };
+    Ok(Image {
+        segments: SegmentList::new(Vec::from_array(alloc, [code, data])?),
+        entry: 0x0804_9000,
+    })
+}
+
+fn image_of(alloc: Global, row: &Row) -> Result<Image, AllocError> {
+    if row.at == 0x1000 {
+        low_image(alloc, row)
+    } else {
+        high_image(alloc, row)
+    }
+}
+
+// Nine pages of NOP, with HLT behind the first of them.
+fn nops(alloc: Global, count: usize) -> Result<Image, AllocError>
+    requires { count < 0x9000 }
+{
+    let mut bytes = vec![in alloc; 0x90; 0x9000]?;
+    bytes[count] = 0xF4;
+    let code = Segment {
+        start: 0x0804_9000,
+        size: 0x9000,
+        perm: Perm(5),
+        bytes: ByteList::new(bytes),
+    };
+    Ok(Image {
+        segments: SegmentList::new(Vec::from_array(alloc, [code])?),
+        entry: 0x0804_9000,
+    })
+}
+
+// Compares what is found in an image with what is to be found.
+fn compare(rt: &impl Abort, alloc: Global, row: &Row) -> Result<(), Fail> {
+    let image = image_of(alloc, row)?;
+    let found = discover(alloc, &image)?;
+    let places = found.code.as_slice();
+    let code: Vec<u32> = places.iter().map(|p| p.at).collect(alloc)?;
+    assert_eq!(rt; code.as_slice(), row.code, "{}", row.name);
+    assert_eq!(rt; found.procs.as_slice(), row.procs, "{}", row.name);
+    match (found.tables.as_slice(), row.table) {
+        ([], None) => {}
+        ([table], Some((jump, start, targets))) => {
+            assert_eq!(rt; table.jump, jump, "{}", row.name);
+            assert_eq!(rt; table.start, start, "{}", row.name);
+            assert_eq!(rt; table.targets.as_slice(), targets, "{}", row.name);
+        }
+        _ => assert!(rt; false, "{}", row.name),
+    }
+    Ok(())
+}
 
 #[test]
 fn finds_code(rt: HostRuntime) -> Result<(), Fail> {
-    for row in &ROWS {
-        let image = image_of(rt.alloc(), row)?;
-        let found = discover(rt.alloc(), &image)?;
-        let places = found.code.as_slice();
-        let code: Vec<u32> = places.iter().map(|p| p.at).collect(rt.alloc())?;
-        assert_eq!(rt; code.as_slice(), row.code, "{}", row.name);
-        assert_eq!(rt; found.procs.as_slice(), row.procs, "{}", row.name);
-        match (found.tables.as_slice(), row.table) {
-            ([], None) => {}
-            ([table], Some((jump, targets))) => {
-                assert_eq!(rt; table.jump, jump, "{}", row.name);
-                assert_eq!(rt; table.targets.as_slice(), targets, "{}", row.name);
-            }
-            _ => assert!(rt; false, "{}", row.name),
-        }
+    for row in &LEADING_ROWS {
+        compare(&rt, rt.alloc(), row)?;
     }
+    for row in &TABLE_ROWS {
+        compare(&rt, rt.alloc(), row)?;
+    }
+    Ok(())
+}
+
+#[test]
+fn counts_instructions(rt: HostRuntime) -> Result<(), Fail> {
+    let most = discover(rt.alloc(), &nops(rt.alloc(), 32_768)?)?;
+    assert_eq!(rt; most.code.as_slice().len(), 32_768);
+    match discover(rt.alloc(), &nops(rt.alloc(), 32_769)?) {
+        Err(DiscoverError::TooMuchCode(count)) => assert_eq!(rt; count, 32_769),
+        _ => assert!(rt; false),
+    }
+    Ok(())
+}
+
+#[test]
+fn has_the_body_of_a_found_procedure(rt: HostRuntime) -> Result<(), Fail> {
+    let image = image_of(rt.alloc(), &LEADING_ROWS[LEADING_ROWS.len() - 1])?;
+    let found = discover(rt.alloc(), &image)?;
+    let addresses = body(rt.alloc(), &found, 0x0804_9016)?;
+    let wanted = [0x0804_9016, 0x0804_901A, 0x0804_901E];
+    assert_eq!(rt; addresses.as_slice(), wanted.as_slice());
     Ok(())
 }

@@ -1,3 +1,4 @@
 pub mod Bounds
 pub mod Pages
 pub mod Places
+pub mod Spans

@@ -6,6 +6,7 @@ mod indexed;
 mod instructions;
 mod pages;
 mod run;
+mod span;
 mod tables;
 #[cfg(test)]
 mod tests;
@@ -13,4 +14,5 @@ mod words;
 
 pub use indexed::IndexedImage;
 pub use run::{ends_run, run_of};
+pub use span::CodeSpan;
 pub use tables::table_at;

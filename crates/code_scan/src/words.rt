@@ -1,5 +1,6 @@
 // Bytes and words of an indexed image.
-ghost use Rattle.std.specs.Prelude.{◌≡◌, ◌+◌, ◌<◌, ◌≤◌, IfSome};
+ghost use Rattle.std.specs.Prelude.{◌≡◌, ℕ, ◌+◌, ◌*◌, ◌%◌, ◌<◌, ◌≤◌, length, IfSome, Some};
+ghost use Rattle.byte_lists.specs.LittleEndian as lists;
 ghost use Rattle.byte_lists.specs.LittleEndian.{word_from};
 ghost use Rattle.image.specs.declared.room.Room.TheVariants.{Any};
 ghost use Rattle.image.specs.Addresses as spec;
@@ -84,6 +85,25 @@ impl<'a> IndexedImage<'a> {
         }
         let segment = self.segment(at)?;
         Some(segment_word(segment, at))
+    }
+
+    /// The bytes that the segment of a page has from the page on; every byte of the segment behind them is 0. It is empty where no
+    /// segment has the page.
+    pub fn bytes_from(&self, page: u32) -> &'a [u8]
+        requires { page % 4096 ≡ 0 }
+        ensures sized { length result.now % 4096 ≡ 0 }
+        ensures words { (index word : ℕ) → index < 1024 → word_at self.now (page + 4 * index) ≡ Some word
+            → word ≡ lists.word_at result.now (4 * index) }
+    {
+        match self.segment(u64::from(page)) {
+            None => &[],
+            Some(segment) => {
+                has_its_place(segment);
+                let bytes = segment.bytes.as_slice();
+                let offset = (page.saturating_sub(segment.start) as usize).min(bytes.len());
+                &bytes[offset..]
+            }
+        }
     }
 
     // The byte at an address, where it can be run.

@@ -6,6 +6,11 @@ use x86_types::{Address, Count, Reg, Rm, Src};
 pub(crate) struct RegText(pub(crate) Reg);
 
 impl Display for RegText {
+    ghost use Rattle.std.specs.Prelude.{Some};
+    ghost use Rattle.instruction_text.specs.Operands.{reg_text};
+
+    ghost output = { λ t. Some (reg_text t.0) };
+
     fn fmt<W: fmt::Write>(&self, f: &mut fmt::Formatter<W>) -> fmt::Result {
         f.write_str(match self.0 {
             Reg::Eax => "eax",
@@ -24,6 +29,11 @@ impl Display for RegText {
 pub(crate) struct AddressText(pub(crate) Address);
 
 impl Display for AddressText {
+    ghost use Rattle.std.specs.Prelude.{Some};
+    ghost use Rattle.instruction_text.specs.Operands.{address_text};
+
+    ghost output = { λ t. Some (address_text t.0) };
+
     fn fmt<W: fmt::Write>(&self, f: &mut fmt::Formatter<W>) -> fmt::Result {
         let at = self.0;
         let disp = at.disp;
@@ -52,6 +62,11 @@ impl Display for AddressText {
 pub(crate) struct RmText(pub(crate) Rm);
 
 impl Display for RmText {
+    ghost use Rattle.std.specs.Prelude.{Some};
+    ghost use Rattle.instruction_text.specs.Operands.{rm_text};
+
+    ghost output = { λ t. Some (rm_text t.0) };
+
     fn fmt<W: fmt::Write>(&self, f: &mut fmt::Formatter<W>) -> fmt::Result {
         match self.0 {
             Rm::Reg(reg) => {
@@ -70,6 +85,11 @@ impl Display for RmText {
 pub(crate) struct SrcText(pub(crate) Src);
 
 impl Display for SrcText {
+    ghost use Rattle.std.specs.Prelude.{Some};
+    ghost use Rattle.instruction_text.specs.Operands.{src_text};
+
+    ghost output = { λ t. Some (src_text t.0) };
+
     fn fmt<W: fmt::Write>(&self, f: &mut fmt::Formatter<W>) -> fmt::Result {
         match self.0 {
             Src::Reg(reg) => {
@@ -89,6 +109,11 @@ impl Display for SrcText {
 pub(crate) struct CountText(pub(crate) Count);
 
 impl Display for CountText {
+    ghost use Rattle.std.specs.Prelude.{Some};
+    ghost use Rattle.instruction_text.specs.Operands.{count_text};
+
+    ghost output = { λ t. Some (count_text t.0) };
+
     fn fmt<W: fmt::Write>(&self, f: &mut fmt::Formatter<W>) -> fmt::Result {
         match self.0 {
             Count::Imm(value) => write!(f, "0x{value:02x}"),

@@ -2,7 +2,7 @@ use Rattle.std.proofs.Common.{◌≡◌, ◌+◌, ◌-◌, ◌<◌, ◌≤◌, �
 use Rattle.image.specs.declared.room.Room.TheVariants.{Any}
 use Rattle.image.specs.Rooms.{room_end}
 use Rattle.image.specs.Addresses.{code_bytes}
-use Rattle.code_scan.proofs.indexed.IndexedImage.copy_code.Given as goal
+use Rattle.code_scan.proofs.indexed.IndexedImage.copy_each.Given as goal
 
 abbrev pub invariant-loop-i : goal.invariant-loop-i
 invariant-loop-i l = record {
