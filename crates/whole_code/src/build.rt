@@ -4,7 +4,7 @@ ghost use Rattle.whole_code.specs.Building.{lifting_of_places, MakesPlace, AreBl
 
 use crate::lifted::{Lifted, lift_place};
 use crate::numbers::{block_number, number_after};
-use crate::ways::{Made, way_blocks};
+use crate::ways::{WayBlocks, way_blocks};
 use flag_ir::Block;
 use plan_types::{Found, Place};
 use std::alloc::{AllocError, Global};
@@ -26,7 +26,7 @@ fn place_blocks(
     ensures { IfOk result (λ made. MakesPlace lifting_of_places found.now.code number first place.now made.block made.further.items) }
 {
     let Lifted { ops: list, way } = lift_place(alloc, place)?;
-    let Made { ops, exit, further } = way_blocks(alloc, found, first, list, way)?;
+    let WayBlocks { ops, exit, further } = way_blocks(alloc, found, first, list, way)?;
     Ok(PlaceBlocks {
         block: Block {
             number,

@@ -15,3 +15,4 @@ mod ways;
 pub use above::above_law;
 pub use laws::one_stack_law;
 pub use unit::whole;
+pub use ways::{WayBlocks, way_blocks};

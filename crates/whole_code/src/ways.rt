@@ -9,12 +9,12 @@ use lift_core::Way;
 use plan_types::{Found, place_at};
 use std::alloc::{AllocError, Global};
 
-// What the block of an instruction does, and the further blocks.
+/// The operations and the exit of the block of an instruction, and the further blocks that its way takes.
 #[derive(Drop)]
-pub(crate) struct Made {
-    pub(crate) ops: OpList,
-    pub(crate) exit: Exit,
-    pub(crate) further: Vec<Block>,
+pub struct WayBlocks {
+    pub ops: OpList,
+    pub exit: Exit,
+    pub further: Vec<Block>,
 }
 
 // The exit to an address.
@@ -28,12 +28,12 @@ fn exit_on(found: &Found, to: u32) -> Result<Exit, AllocError>
 }
 
 // A block that takes no further ones.
-fn alone(alloc: Global, ops: OpList, exit: Exit) -> Made
+fn alone(alloc: Global, ops: OpList, exit: Exit) -> WayBlocks
     ensures ops { result.ops ≡ ops }
     ensures exit { result.exit ≡ exit }
     ensures further { result.further.items ≡ [] }
 {
-    Made {
+    WayBlocks {
         ops,
         exit,
         further: Vec::new(alloc),
@@ -48,7 +48,7 @@ fn repeat(
     count: Term,
     again: Term,
     targets: Targets,
-) -> Result<Made, AllocError>
+) -> Result<WayBlocks, AllocError>
     ensures { IfOk result (λ made. IsRepeat first ops count again targets.yes targets.no targets.jumps.items made.ops made.exit made.further.items) }
 {
     let Targets { yes, no, mut jumps } = targets;
@@ -64,7 +64,7 @@ fn repeat(
         },
     })?;
     further.append(&mut jumps)?;
-    Ok(Made {
+    Ok(WayBlocks {
         ops: OpList::new(Vec::new(alloc)),
         exit: Exit::Branch {
             test: count,
@@ -83,11 +83,11 @@ fn branch(
     yes: u32,
     no: u32,
     ops: OpList,
-) -> Result<Made, AllocError>
+) -> Result<WayBlocks, AllocError>
     ensures { IfOk result (λ made. (made.ops ≡ ops) × MakesBranch found.now.code first test yes no made.exit made.further.items) }
 {
     let targets = targets_of(alloc, found, first, yes, no)?;
-    Ok(Made {
+    Ok(WayBlocks {
         ops,
         exit: Exit::Branch {
             test,
@@ -98,14 +98,15 @@ fn branch(
     })
 }
 
-// The way of an instruction, where the first further block gets the number `first`.
-pub(crate) fn way_blocks(
+/// The block of an instruction with this list and this way, among found code, where the first further block gets the number `first`. An
+/// address at which nothing is found is left by a jump. Err where memory runs out, or where there would be more than 2^32 blocks.
+pub fn way_blocks(
     alloc: Global,
     found: &Found,
     first: u32,
     ops: OpList,
     way: Way,
-) -> Result<Made, AllocError>
+) -> Result<WayBlocks, AllocError>
     ensures { IfOk result (λ made. MakesWay found.now.code first ops way made.ops made.exit made.further.items) }
 {
     match way {

@@ -1,0 +1,3 @@
+pub mod Tests
+pub mod Exact
+pub mod Numbered
