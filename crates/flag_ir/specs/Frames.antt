@@ -88,8 +88,8 @@ abbrev pub store_near_all : List Stored → List Frame → List Frame
 store_near_all [] frames = frames
 store_near_all (s ∷ more) frames = store_near_all more (put_near_all s.at s.bytes frames)
 
--- ---- which accesses are judged: those that start on the stack below the end of the outermost frame. The stack has 8 MiB below esp0, rounded
--- down to a page.
+-- ---- which accesses are judged: those that start on the stack below the end of the outermost frame. The stack counts here from 8 MiB and a page
+-- below esp0 on.
 abbrev pub outermost_top : List Frame → ℕ
 outermost_top [] = 0
 outermost_top (f ∷ []) = top_of f

@@ -8,3 +8,4 @@ mod Moving
 mod Running
 mod Starting
 mod Counting
+mod Indexing

@@ -1,5 +1,5 @@
 -- A machine that goes on by one more step, or ends, or wants memory.
-use Rattle.std.proofs.Common.{◌≡◌, ℕ, ◌+◌, ◌≤◌, List, [], ◌++◌, Option, Some, None, Ok, Err, sym, ap, ◌∙◌, subst, append_assoc, append-nil}
+use Rattle.std.proofs.Common.{◌≡◌, ℕ, ◌+◌, ◌≤◌, List, [], ◌++◌, Option, Some, None, Ok, Err, sym, ap, ◌∙◌, subst, append_assoc, append-nil, arith}
 use Rattle.std.specs.declared.alloc.AllocError.{AllocError}
 use Rattle.outside.specs.declared.answer.Answer.{Answer}
 use Rattle.outside.specs.Environment.{Environment}
@@ -96,3 +96,8 @@ module _ (unit : CodeUnit) (s : Position) (m : Memory) where
     pub spent : StandsInBlock unit t → (budget : ℕ) → k ≡ budget → Tells o p (RunsTo run_from budget (Ok (unitend.Run ends.Spent)))
     spent placed budget is = subst (λ (j : ℕ). Tells o p (RunsTo run_from j (Ok (unitend.Run ends.Spent)))) is
         (tells_map o p (RanOn unit s m k t n) (RunsTo run_from k (Ok (unitend.Run ends.Spent))) told (λ a b g. spends traces runs k t n a b g placed))
+
+  -- memory is wanting before the first step
+  pub wants_first : TraceLaws → RunLaws UnitState → StandsInBlock unit s → (o : Option Told) (budget : ℕ) (e : AllocError) → Tells o o (RunsTo run_from budget (Err e))
+  wants_first traces runs placed o budget e =
+      stepped_wanting traces runs 0 s m o o (starts o) placed o s m budget e (omega arith) (tells_none o (MakesMove (next_from unit s m) unit (Err e) s m) (λ a. record { calls = 0; host = gives_none a }))

@@ -2,6 +2,7 @@ pub mod Standing
 pub mod Computing
 pub mod Performing
 pub mod Leaving
+pub mod Indexing
 pub mod Moving
 pub mod Beginning
 pub mod Running

@@ -4,9 +4,11 @@ ghost use Rattle.mem_pages.specs.Contents.{memory_in};
 ghost use Rattle.flag_ir.specs.declared.block.Exit.TheVariants as exits;
 ghost use Rattle.flag_ir.specs.Entering.{index_at};
 ghost use Rattle.flag_ir.specs.Form.{IsExit, IsFramelessExit, IsTerm};
+ghost use Rattle.unit_machine.specs.Indexing.{IsIndexOf};
 ghost use Rattle.unit_machine.specs.Leaving.{AreNumbered, IsThere, LeavesBy};
 
 use crate::UnitEnd;
+use crate::index::BlockIndex;
 use crate::values::Values;
 use flag_ir::{Block, Exit, Term, Unit};
 use mem_pages::{Pages, RunEnd};
@@ -57,17 +59,18 @@ fn branch(unit: &Unit, test: Term, yes: u32, no: u32, values: &Values, pages: &P
     }
 }
 
-fn jump(unit: &Unit, to: Term, values: &Values, pages: &Pages) -> Left
+fn jump(unit: &Unit, index: &BlockIndex, to: Term, values: &Values, pages: &Pages) -> Left
     requires form { IsExit 0 (length unit.now.whole) unit.now.procs (exits.Jump to) }
     requires procs { unit.now.procs ≡ [] }
+    requires indexed { IsIndexOf unit.now.whole index.now }
     ensures leaves { (turn : ℕ) → LeavesBy unit.now turn (exits.Jump to) result values.now (memory_in pages.now) }
     ensures there { IsThere unit.now result }
 {
     match known(values.term(to)) {
         None => Left::Ended(UnitEnd::Run(RunEnd::Unspecified)),
-        Some(at) => match find_block(unit.whole.as_slice(), at) {
+        Some(at) => match index.find(at) {
             None => Left::Ended(UnitEnd::Stopped(at)),
-            Some(index) => Left::To(index),
+            Some(place) => Left::To(place),
         },
     }
 }
@@ -90,18 +93,26 @@ fn stop(unit: &Unit, turn: u32, values: &Values, pages: &Pages) -> Left
 }
 
 /// Leaves a block by an exit that needs no frame, in the turn of a block with this old address.
-pub(crate) fn leave(unit: &Unit, turn: u32, exit: Exit, values: &Values, pages: &Pages) -> Left
+pub(crate) fn leave(
+    unit: &Unit,
+    index: &BlockIndex,
+    turn: u32,
+    exit: Exit,
+    values: &Values,
+    pages: &Pages,
+) -> Left
     requires form { IsExit 0 (length unit.now.whole) unit.now.procs exit }
     requires frameless { IsFramelessExit exit }
     requires numbered { AreNumbered unit.now }
     requires procs { unit.now.procs ≡ [] }
+    requires indexed { IsIndexOf unit.now.whole index.now }
     ensures leaves { LeavesBy unit.now turn exit result values.now (memory_in pages.now) }
     ensures there { IsThere unit.now result }
 {
     match exit {
         Exit::Go(number) => go(unit, number, values, pages),
         Exit::Branch { test, yes, no } => branch(unit, test, yes, no, values, pages),
-        Exit::Jump { to } => jump(unit, to, values, pages),
+        Exit::Jump { to } => jump(unit, index, to, values, pages),
         Exit::Fault => Left::Ended(UnitEnd::Run(RunEnd::MemoryFault)),
         Exit::Stop => stop(unit, turn, values, pages),
         Exit::CallProc { .. } => Left::Ended(UnitEnd::Run(RunEnd::Outside)),

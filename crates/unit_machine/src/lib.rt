@@ -5,6 +5,7 @@ mod calculate;
 mod call;
 mod compute;
 mod end;
+mod index;
 mod leave;
 mod perform;
 mod run;

@@ -6,10 +6,12 @@ ghost use Rattle.mem_pages.specs.Contents.{memory_in};
 ghost use Rattle.sw_host.specs.Told.{Tells};
 ghost use Rattle.flag_ir.specs.Form.{IsInForm, IsLoweredInForm};
 ghost use Rattle.flag_ir.specs.UnitRun.{next, unit_run};
+ghost use Rattle.unit_machine.specs.Indexing.{IsIndexOf};
 ghost use Rattle.unit_machine.specs.Moving.{StandsInBlock, IsRunnable, state_in};
 ghost use Rattle.unit_machine.specs.Running.{RunsTo};
 
 use crate::UnitEnd;
+use crate::index::{BlockIndex, index_blocks};
 use crate::leave::find_block;
 use crate::step::{Position, step};
 use crate::values::first_values;
@@ -19,7 +21,35 @@ use std::alloc::{AllocError, Global};
 use sw_host::Host;
 use traces::{run_laws, trace_laws};
 
-// Runs it on from where it stands.
+// Runs it on from where it stands, by the index of its blocks.
+fn run_indexed<H: Host>(
+    alloc: Global,
+    unit: &Unit,
+    index: &BlockIndex,
+    at: &mut Position,
+    pages: &mut Pages,
+    host: &mut H,
+    budget: u64,
+) -> Result<UnitEnd, AllocError>
+    requires runnable { IsRunnable unit.now }
+    requires indexed { IsIndexOf unit.now.whole index.now }
+    requires placed { StandsInBlock unit.now at.old }
+    ensures runs { Tells (H.told host.old) (H.told host.new) (RunsTo (λ left. trace.run (next unit.now) (state_in unit.now at.old (memory_in pages.old) left)) budget result) }
+    ensures faults { H.faults host.old ≤ H.faults host.new }
+{
+    trace_laws();
+    run_laws::<UnitMeaning>();
+    for i in 0..budget {
+        match step(alloc, unit, index, at, pages, host) {
+            Err(error) => return Err(error),
+            Ok(None) => {}
+            Ok(Some(end)) => return Ok(end),
+        }
+    }
+    Ok(UnitEnd::Run(RunEnd::Spent))
+}
+
+// The same; the index is made first.
 fn run_on<H: Host>(
     alloc: Global,
     unit: &Unit,
@@ -35,14 +65,10 @@ fn run_on<H: Host>(
 {
     trace_laws();
     run_laws::<UnitMeaning>();
-    for i in 0..budget {
-        match step(alloc, unit, at, pages, host) {
-            Err(error) => return Err(error),
-            Ok(None) => {}
-            Ok(Some(end)) => return Ok(end),
-        }
+    match index_blocks(alloc, unit.whole.as_slice()) {
+        Err(error) => Err(error),
+        Ok(index) => run_indexed(alloc, unit, &index, at, pages, host, budget),
     }
-    Ok(UnitEnd::Run(RunEnd::Spent))
 }
 
 /// Runs a unit that is in form and needs no frame from a jump to an old address on, over a memory to which the stack is added, for at most so

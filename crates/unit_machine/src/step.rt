@@ -3,9 +3,11 @@ ghost use Rattle.std.specs.Prelude.{◌≡◌, ◌≤◌, length, slice_get, Non
 ghost use Rattle.mem_pages.specs.Contents.{memory_in};
 ghost use Rattle.sw_host.specs.Told.{Tells};
 ghost use Rattle.unit_machine.specs.Beginning.{BeginsBlock};
+ghost use Rattle.unit_machine.specs.Indexing.{IsIndexOf};
 ghost use Rattle.unit_machine.specs.Moving.{StandsInBlock, IsRunnable, MakesMove, next_from, within_from};
 
 use crate::UnitEnd;
+use crate::index::BlockIndex;
 use crate::leave::{Left, leave};
 use crate::perform::perform;
 use crate::values::Values;
@@ -40,12 +42,14 @@ fn begin(block: &Block, at: &mut Position)
 fn act<H: Host>(
     alloc: Global,
     unit: &Unit,
+    index: &BlockIndex,
     block: &Block,
     at: &mut Position,
     pages: &mut Pages,
     host: &mut H,
 ) -> Result<Option<UnitEnd>, AllocError>
     requires runnable { IsRunnable unit.now }
+    requires indexed { IsIndexOf unit.now.whole index.now }
     requires here { slice_get unit.now.whole at.old.block ≡ Some block.now }
     requires within { at.old.op ≤ length block.now.ops }
     ensures moves { Tells (H.told host.old) (H.told host.new) (MakesMove (within_from unit.now block.now at.old (memory_in pages.old)) unit.now result at.new (memory_in pages.new)) }
@@ -63,9 +67,9 @@ fn act<H: Host>(
             Ok(Some(end)) => Ok(Some(UnitEnd::Run(end))),
         }
     } else {
-        match leave(unit, at.turn, block.exit, &at.values, pages) {
-            Left::To(index) => {
-                at.block = index;
+        match leave(unit, index, at.turn, block.exit, &at.values, pages) {
+            Left::To(place) => {
+                at.block = place;
                 at.op = 0;
                 Ok(None)
             }
@@ -78,11 +82,13 @@ fn act<H: Host>(
 pub(crate) fn step<H: Host>(
     alloc: Global,
     unit: &Unit,
+    index: &BlockIndex,
     at: &mut Position,
     pages: &mut Pages,
     host: &mut H,
 ) -> Result<Option<UnitEnd>, AllocError>
     requires runnable { IsRunnable unit.now }
+    requires indexed { IsIndexOf unit.now.whole index.now }
     requires placed { StandsInBlock unit.now at.old }
     ensures moves { Tells (H.told host.old) (H.told host.new) (MakesMove (next_from unit.now at.old (memory_in pages.old)) unit.now result at.new (memory_in pages.new)) }
     ensures placed { result ≡ Ok None → StandsInBlock unit.now at.new }
@@ -90,5 +96,5 @@ pub(crate) fn step<H: Host>(
 {
     let block = &unit.whole.as_slice()[at.block];
     begin(block, at);
-    act(alloc, unit, block, at, pages, host)
+    act(alloc, unit, index, block, at, pages, host)
 }

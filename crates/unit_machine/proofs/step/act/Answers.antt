@@ -20,7 +20,7 @@ returns-in-Ok-Some-clause-moves g c =
 pub returns-in-To-clause-moves : goal.returns-in-To-clause-moves
 returns-in-To-clause-moves g c =
     let len : length c.as_slice-ops.result.now ≡ length c.args.block.now.ops = ap length c.as_slice-ops.ensures in
-    tells_leaves c.args.unit.now c.args.block.now c.args.at.now (memory_in c.args.pages.now) (g.H.Host.told c.args.host.now) c.in-To.index (omega (arith, c.if-at-ops.false, len)) c.in-To.ensures.leaves
+    tells_leaves c.args.unit.now c.args.block.now c.args.at.now (memory_in c.args.pages.now) (g.H.Host.told c.args.host.now) c.in-To.place (omega (arith, c.if-at-ops.false, len)) c.in-To.ensures.leaves
 
 pub returns-in-To-clause-placed : goal.returns-in-To-clause-placed
 returns-in-To-clause-placed g c _ = placed_at c.args.unit.now c.args.block.now _ refl c.in-To.ensures.there

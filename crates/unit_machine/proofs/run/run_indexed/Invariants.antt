@@ -3,7 +3,7 @@ use Rattle.mem_pages.specs.Contents.{memory_in}
 use Rattle.sw_host.specs.Told.{Tells}
 use Rattle.unit_machine.specs.Moving.{StandsInBlock}
 use Rattle.unit_machine.specs.Running.{RanOn}
-use Rattle.unit_machine.proofs.run.run_on.Given as goal
+use Rattle.unit_machine.proofs.run.run_indexed.Given as goal
 
 abbrev pub invariant-loop-i : goal.invariant-loop-i
 invariant-loop-i g l = record {
