@@ -1,0 +1,2 @@
+//! The compiler's choice of instructions: named code for lowered units.
+#![tactic(auto)]
