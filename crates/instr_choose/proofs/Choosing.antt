@@ -39,6 +39,7 @@ use Rattle.x86_types.specs.Numbers.{size_of}
 use Rattle.memory.specs.Memory.{Memory, Load, Store, allows_all, bytes_at, put_all, store_all}
 use Rattle.memory.specs.LessSpecified.{MemoryLessSpecified}
 use Rattle.memory.specs.LessSpecifiedLaws.{LessSpecifiedMemoryLaws}
+use Rattle.memory.specs.CallLaws.{CallLaws}
 use Rattle.x86_meaning.specs.Outcomes.{chosen}
 use Rattle.flag_ir.specs.declared.variable.Var.{Var}
 use Rattle.flag_ir.specs.declared.variable.Term.{Term}
@@ -74,16 +75,17 @@ pub record LawsBelow : Type 0 where
   pub products : ProductLaws
   pub divisions : DivisionLaws
   pub memory : LessSpecifiedMemoryLaws
+  pub calls : CallLaws
 
 module _ (laws : LawsBelow) where
-  abbrev value_below : (t : Term) (u : Storage) (s : CodeState) → IsTerm 0 t → IsBelow u s → WordLessSpecified (term_in t u) (term_at t s)
+  abbrev pub value_below : (t : Term) (u : Storage) (s : CodeState) → IsTerm 0 t → IsBelow u s → WordLessSpecified (term_in t u) (term_at t s)
   value_below = term_below laws.less laws.words
 
   -- ---- the result of a list goes to its variable last
-  result : (t : Var) (x : Word) (p : Slot) (u : Storage) (s : CodeState) → IsVar 0 t → WordLessSpecified x (s.cpu.regs (place_of p)) → IsBelow u s → Comes (Ok (put_var t x u)) [] (named_item (copy (slot_of t) p) ∷ []) s
+  pub result : (t : Var) (x : Word) (p : Slot) (u : Storage) (s : CodeState) → IsVar 0 t → WordLessSpecified x (s.cpu.regs (place_of p)) → IsBelow u s → Comes (Ok (put_var t x u)) [] (named_item (copy (slot_of t) p) ∷ []) s
   result t x p u s i h b = then (with_place (place_of_var t) (s.cpu.regs (place_of p)) s) (copy_is (slot_of t) p s) (ends (sets t u s x _ i h (but t u s b)))
 
-  set_meets : (t : Var) (x : Term) (u : Storage) (s : CodeState) → IsVar 0 t → IsTerm 0 x → IsBelow u s → Comes (Ok (put_var t (term_in x u) u)) [] (map named_item (put (slot_of t) x ∷ [])) s
+  pub set_meets : (t : Var) (x : Term) (u : Storage) (s : CodeState) → IsVar 0 t → IsTerm 0 x → IsBelow u s → Comes (Ok (put_var t (term_in x u) u)) [] (map named_item (put (slot_of t) x ∷ [])) s
   set_meets t x u s i j h = then (with_place (place_of_var t) (term_at x s) s) (put_is (slot_of t) x s) (ends (sets t u s _ _ i (value_below x u s j h) (but t u s h)))
 
   -- ---- operations of two words
@@ -200,7 +202,7 @@ module _ (laws : LawsBelow) where
       (ends (sets t u (with_flags a.flags s2) _ a.value i (laws.shifts.shift_less o 4 _ _ _ _ _ _ refl x_less y_less.b0 none).value (flagged_but t u s2 a.flags (over t u s1 (term_at x s1) (but t u s1 h1)))))))
 
   -- ---- a pick
-  pick_meets : (t : Var) (x y z : Term) (u : Storage) (s : CodeState) → IsVar 0 t → IsTerm 0 x → IsTerm 0 y → IsTerm 0 z → IsBelow u s → Comes (Ok (put_var t (picked (known (term_in x u)) (term_in y u) (term_in z u)) u)) [] (map named_item (choose_pick t x y z)) s
+  pub pick_meets : (t : Var) (x y z : Term) (u : Storage) (s : CodeState) → IsVar 0 t → IsTerm 0 x → IsTerm 0 y → IsTerm 0 z → IsBelow u s → Comes (Ok (put_var t (picked (known (term_in x u)) (term_in y u) (term_in z u)) u)) [] (map named_item (choose_pick t x y z)) s
   pick_meets t x y z u s i j k l h =
       let p = place_of_var t in
       let s1 = with_place 0 (term_at x s) s in
@@ -223,7 +225,7 @@ module _ (laws : LawsBelow) where
       (ends (sets t u s4 _ v i (picked_less laws.less laws.words _ _ _ _ _ _ x_less y_less z_less) (over t u s3 (term_at z s3) (but t u s3 h3))))))))
 
   -- ---- calculations
-  calc_meets : (c : Calc) (t : Var) (x y : Term) (u : Storage) (s : CodeState) → IsVar 0 t → IsTerm 0 x → IsTerm 0 y → IsBelow u s → Comes (Ok (put_var t (calculate c (term_in x u) (term_in y u)) u)) [] (map named_item (choose_calc c t x y)) s
+  pub calc_meets : (c : Calc) (t : Var) (x y : Term) (u : Storage) (s : CodeState) → IsVar 0 t → IsTerm 0 x → IsTerm 0 y → IsBelow u s → Comes (Ok (put_var t (calculate c (term_in x u) (term_in y u)) u)) [] (map named_item (choose_calc c t x y)) s
   unfolding product_of upper_product_of shifted_of equal_of below_of less_of
   calc_meets calc.Add t x y u s = alu_meets alu.Add sum_of sum_core (λ p a s. refl) t x y u s
   calc_meets calc.Sub t x y u s = alu_meets alu.Sub difference_of difference_core (λ p a s. refl) t x y u s

@@ -4,3 +4,7 @@ pub mod Below
 pub mod Comparing
 pub mod Rules
 pub mod Choosing
+pub mod Memories
+pub mod Quotients
+pub mod Dividing
+pub mod Meeting

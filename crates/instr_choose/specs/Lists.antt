@@ -156,7 +156,7 @@ choose_divide Two signed quotient remainder high low by =
     put (Fixed Ecx) by ∷ put (Fixed Edx) high ∷ put (Fixed Eax) low ∷ divide_by signed Two (Fixed Ecx) ∷ extend Two (slot_of quotient) (Fixed Eax) ∷ extend Two (slot_of remainder) (Fixed Edx) ∷ []
 choose_divide One signed quotient remainder high low by =
     put (Fixed Ecx) by ∷ put (Fixed Edx) high ∷ extend One (Fixed Eax) (Fixed Edx) ∷ shift_by shiftop.Shl (count.Imm 8) (Fixed Eax) ∷ put (Fixed Edx) low ∷ copy_byte (Fixed Eax) (Fixed Edx) ∷ divide_by signed One (Fixed Ecx)
-    ∷ extend One (slot_of quotient) (Fixed Eax) ∷ shift_by shiftop.Shr (count.Imm 8) (Fixed Eax) ∷ copy (slot_of remainder) (Fixed Eax) ∷ []
+    ∷ extend One (slot_of quotient) (Fixed Eax) ∷ extend Two (Fixed Eax) (Fixed Eax) ∷ shift_by shiftop.Shr (count.Imm 8) (Fixed Eax) ∷ copy (slot_of remainder) (Fixed Eax) ∷ []
 
 abbrev pub choose_pick : Var → Term → Term → Term → List VInstr
 choose_pick to test x y = put (Fixed Eax) test ∷ alu_by alu.Cmp (Fixed Eax) (term.Word 0) ∷ put (Fixed Ecx) x ∷ put (slot_of to) y ∷ move_if condition.Ne (slot_of to) (Fixed Ecx) ∷ []
