@@ -27,7 +27,7 @@ use Rattle.flag_ir.specs.Form.{IsVar, IsTerm}
 use Rattle.named_code.specs.declared.slot.Slot.TheVariants.{Fixed, Name}
 use Rattle.named_code.specs.Items.{Item, named_item}
 use Rattle.named_code.specs.Running.{CodeState, CodePoint, act}
-use Rattle.instr_choose.specs.Lists.{slot_of, put, copy, extend, copy_byte, shift_by, divide_by, choose_divide}
+use Rattle.instr_choose.specs.Lists.{slot_of, put, copy, extend, copy_byte, shift_by, divide_by, byte_dividend, byte_results, choose_divide}
 use Rattle.instr_choose.specs.Relation.{place_of_var, IsBelow}
 use Rattle.instr_choose.proofs.Items as items
 use Rattle.instr_choose.proofs.Items.{with_place, with_flags, term_at, put_is, copy_is, extend_two_is, extend_one_is, extend_dl_is, shift_by_is, copy_byte_is, with_lowest_byte, divided, division_at, after_division, divide_is}
@@ -170,6 +170,7 @@ module _ (laws : LawsBelow) where
 
   one_meets : (signed : Bool) (q r : Var) (high low by : Term) (u : Storage) (s : CodeState) → IsVar 0 q → IsVar 0 r → IsTerm 0 high → IsTerm 0 low → IsTerm 0 by → IsBelow u s
       → Comes (divided_into (divide signed 1 (term_in high u) (term_in low u) (term_in by u)) q r u) [] (map named_item (choose_divide One signed q r high low by)) s
+  unfolding byte_dividend byte_results
   one_meets signed q r high low by u s i j k l n h =
       let s1 = with_place 1 (term_at by s) s in
       let h1 = scratch u s 1 (term_at by s) (omega arith) h in

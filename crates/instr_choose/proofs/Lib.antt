@@ -8,3 +8,4 @@ pub mod Memories
 pub mod Quotients
 pub mod Dividing
 pub mod Meeting
+pub mod Growing

@@ -149,14 +149,20 @@ choose_calc calc.Ltu to x y = by_compare condition.B to x y
 choose_calc calc.Lts to x y = by_compare condition.L to x y
 
 -- ---- divisions: of EDX:EAX, of DX:AX, or of AX, which is built of the lowest bytes of both halves
+abbrev pub wide_operands : Term → Term → Term → List VInstr
+wide_operands high low by = put (Fixed Ecx) by ∷ put (Fixed Edx) high ∷ put (Fixed Eax) low ∷ []
+
+unfoldable pub byte_dividend : Term → Term → Term → List VInstr
+byte_dividend high low by = put (Fixed Ecx) by ∷ put (Fixed Edx) high ∷ extend One (Fixed Eax) (Fixed Edx) ∷ shift_by shiftop.Shl (count.Imm 8) (Fixed Eax) ∷ put (Fixed Edx) low ∷ copy_byte (Fixed Eax) (Fixed Edx) ∷ []
+
+-- quotient and remainder are the two bytes of AX
+unfoldable pub byte_results : Var → Var → List VInstr
+byte_results quotient remainder = extend One (slot_of quotient) (Fixed Eax) ∷ extend Two (Fixed Eax) (Fixed Eax) ∷ shift_by shiftop.Shr (count.Imm 8) (Fixed Eax) ∷ copy (slot_of remainder) (Fixed Eax) ∷ []
+
 abbrev pub choose_divide : Width → Bool → Var → Var → Term → Term → Term → List VInstr
-choose_divide Four signed quotient remainder high low by =
-    put (Fixed Ecx) by ∷ put (Fixed Edx) high ∷ put (Fixed Eax) low ∷ divide_by signed Four (Fixed Ecx) ∷ copy (slot_of quotient) (Fixed Eax) ∷ copy (slot_of remainder) (Fixed Edx) ∷ []
-choose_divide Two signed quotient remainder high low by =
-    put (Fixed Ecx) by ∷ put (Fixed Edx) high ∷ put (Fixed Eax) low ∷ divide_by signed Two (Fixed Ecx) ∷ extend Two (slot_of quotient) (Fixed Eax) ∷ extend Two (slot_of remainder) (Fixed Edx) ∷ []
-choose_divide One signed quotient remainder high low by =
-    put (Fixed Ecx) by ∷ put (Fixed Edx) high ∷ extend One (Fixed Eax) (Fixed Edx) ∷ shift_by shiftop.Shl (count.Imm 8) (Fixed Eax) ∷ put (Fixed Edx) low ∷ copy_byte (Fixed Eax) (Fixed Edx) ∷ divide_by signed One (Fixed Ecx)
-    ∷ extend One (slot_of quotient) (Fixed Eax) ∷ extend Two (Fixed Eax) (Fixed Eax) ∷ shift_by shiftop.Shr (count.Imm 8) (Fixed Eax) ∷ copy (slot_of remainder) (Fixed Eax) ∷ []
+choose_divide Four signed quotient remainder high low by = wide_operands high low by ++ divide_by signed Four (Fixed Ecx) ∷ copy (slot_of quotient) (Fixed Eax) ∷ copy (slot_of remainder) (Fixed Edx) ∷ []
+choose_divide Two signed quotient remainder high low by = wide_operands high low by ++ divide_by signed Two (Fixed Ecx) ∷ extend Two (slot_of quotient) (Fixed Eax) ∷ extend Two (slot_of remainder) (Fixed Edx) ∷ []
+choose_divide One signed quotient remainder high low by = byte_dividend high low by ++ divide_by signed One (Fixed Ecx) ∷ byte_results quotient remainder
 
 abbrev pub choose_pick : Var → Term → Term → Term → List VInstr
 choose_pick to test x y = put (Fixed Eax) test ∷ alu_by alu.Cmp (Fixed Eax) (term.Word 0) ∷ put (Fixed Ecx) x ∷ put (slot_of to) y ∷ move_if condition.Ne (slot_of to) (Fixed Ecx) ∷ []

@@ -1,8 +1,13 @@
 //! The compiler's choice of instructions: named code for lowered units.
 #![tactic(auto)]
 
+mod blocks;
+mod calculations;
+mod divisions;
 mod instrs;
 mod laws;
 mod names;
+mod operations;
 
+pub use blocks::choose;
 pub use laws::choosing_laws;
