@@ -9,3 +9,4 @@ pub mod Quotients
 pub mod Dividing
 pub mod Meeting
 pub mod Growing
+pub mod SmallUnits

@@ -9,7 +9,7 @@ use flag_ir::{Block, Op, Unit};
 use named_code::{VBlock, VCode, VInstr, VInstrList};
 use std::alloc::{AllocError, Global};
 
-#[tactic(auto, using(crate::proofs::Growing::choose_ops_last, crate::proofs::Growing::choose_ops_none))]
+#[tactic(auto, using(crate::proofs::Growing::choose_ops_none))]
 fn choose_ops(alloc: Global, ops: &[Op]) -> Result<Vec<VInstr>, AllocError>
     requires { All OpHasNames ops.now }
     ensures { IfOk result (λ code. code.items ≡ choose_ops ops.now) }
@@ -36,6 +36,7 @@ fn choose_block(alloc: Global, block: &Block) -> Result<VBlock, AllocError>
 
 /// The named code of a lowered unit: a block for each of its blocks, with the same number and the same old address. The registers
 /// live in the names 0 to 7, the flags in 8 to 12, and the temporaries in those from 13 on. Err where memory runs out.
+#[tactic(auto, using(crate::proofs::Growing::choose_blocks_more))]
 pub fn choose(alloc: Global, unit: &Unit) -> Result<VCode, AllocError>
     requires form { IsInForm unit.now }
     requires lowered { unit.now.lowered ≡ true }

@@ -8,6 +8,8 @@ mod instrs;
 mod laws;
 mod names;
 mod operations;
+#[cfg(test)]
+mod tests;
 
 pub use blocks::choose;
 pub use laws::choosing_laws;
