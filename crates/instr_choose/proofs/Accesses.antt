@@ -1,5 +1,5 @@
 -- What the chosen instructions load and store.
-use Rattle.std.proofs.Common.{◌≡◌, ℕ, ◌+◌, ◌*◌, ◌%◌, ◌/◌, ◌<◌, ◌&&◌, Bool, true, false, List, [], ◌∷◌, take, Option, Some, None, refl, sym, ap, ◌∙◌, subst, arith}
+use Rattle.std.proofs.Common.{◌≡◌, ℕ, ◌+◌, ◌*◌, ◌%◌, ◌/◌, ◌<◌, ◌&&◌, Bool, true, false, List, [], ◌∷◌, take, Option, Some, None, refl, ap, ◌∙◌, arith}
 use Rattle.std.specs.Option.{option_map}
 use Rattle.traces.specs.Trace.{MemoryFault, Move, Go, Halt}
 use Rattle.x86_values.specs.declared.byte.Byte.{Byte}
@@ -21,7 +21,7 @@ use Rattle.flag_ir.specs.declared.variable.Var.{Var}
 use Rattle.flag_ir.specs.declared.variable.Term.{Term}
 use Rattle.flag_ir.specs.declared.variable.Term.TheVariants as term
 use Rattle.named_code.specs.declared.slot.Slot.{Slot}
-use Rattle.named_code.specs.declared.slot.Slot.TheVariants.{Fixed, Name}
+use Rattle.named_code.specs.declared.slot.Slot.TheVariants.{Fixed}
 use Rattle.named_code.specs.Items.{Item, named_item, naming_of, place_of}
 use Rattle.named_code.specs.Running.{CodeState, CodePoint, CodePosition, standing_at, by_loads, act}
 use Rattle.instr_choose.specs.Lists.{slot_of, with_source, based_on, at_word, address_of, load_by, store_by}

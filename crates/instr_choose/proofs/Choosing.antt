@@ -1,22 +1,16 @@
 -- Each operation is met by its list.
-use Rattle.std.proofs.Common.{◌≡◌, ◌≢◌, ℕ, ◌+◌, ◌<◌, ◌==◌, Bool, true, false, cond, List, [], ◌∷◌, ◌++◌, map, take, Option, Some, None, Result, Ok, Err, refl, sym, ap, ◌∙◌, subst, arith}
-use Rattle.outside.specs.Environment.{IsEnvironment}
-use Rattle.traces.specs.Trace.{Label, End, MemoryFault, DivideFault, Go, Halt}
-
+use Rattle.std.proofs.Common.{◌≡◌, ℕ, ◌==◌, Bool, true, false, cond, [], ◌∷◌, map, Some, Ok, refl, sym, ap, ◌∙◌, subst, arith}
+use Rattle.traces.specs.Trace.{Go}
 use Rattle.x86_values.specs.declared.word.Word.{Word}
 use Rattle.x86_values.specs.declared.word.Flags.{Flags}
 use Rattle.x86_values.specs.declared.answered.Answered.{Answered}
-use Rattle.x86_values.specs.declared.divided.Divided.{Divided}
-use Rattle.x86_values.specs.declared.divided.Divided.TheVariants as divide_to
-use Rattle.x86_values.specs.Words.{word_of, known, word_list, padded}
-use Rattle.x86_values.specs.Sizes.{no_word, IsSize}
+use Rattle.x86_values.specs.Words.{word_of, known}
 use Rattle.x86_values.specs.Results.{no_flags}
 use Rattle.x86_values.specs.Products.{multiply}
-use Rattle.x86_values.specs.Divisions.{divide}
 use Rattle.x86_values.specs.Shifts.{shift}
 use Rattle.x86_values.specs.Sums.{sub}
 use Rattle.x86_values.specs.Conditions.{condition}
-use Rattle.x86_values.specs.LessSpecified.{WordLessSpecified, FlagsLessSpecified, BytesLessSpecified, DividedLessSpecified}
+use Rattle.x86_values.specs.LessSpecified.{WordLessSpecified, FlagsLessSpecified}
 use Rattle.x86_values.specs.LessSpecifiedLaws.{LessSpecifiedLaws}
 use Rattle.x86_values.specs.WordLaws.{WordLaws}
 use Rattle.x86_values.specs.SumLaws.{SumLaws}
@@ -31,13 +25,7 @@ use Rattle.x86_types.specs.declared.operation.ShiftOp.{ShiftOp}
 use Rattle.x86_types.specs.declared.operation.ShiftOp.TheVariants as shiftop
 use Rattle.x86_types.specs.declared.operation.Cond.{Cond}
 use Rattle.x86_types.specs.declared.operation.Cond.TheVariants as condition_of
-use Rattle.x86_types.specs.declared.operation.Count.TheVariants as count
-use Rattle.x86_types.specs.declared.operand.Reg.TheVariants.{Eax, Ecx, Edx, Ebx}
-use Rattle.x86_types.specs.declared.width.Width.{Width}
-use Rattle.x86_types.specs.declared.width.Width.TheVariants.{One, Two, Four}
-use Rattle.x86_types.specs.Numbers.{size_of}
-use Rattle.memory.specs.Memory.{Memory, Load, Store, allows_all, bytes_at, put_all, store_all}
-use Rattle.memory.specs.LessSpecified.{MemoryLessSpecified}
+use Rattle.x86_types.specs.declared.operand.Reg.TheVariants.{Eax, Ecx, Edx}
 use Rattle.memory.specs.LessSpecifiedLaws.{LessSpecifiedMemoryLaws}
 use Rattle.memory.specs.CallLaws.{CallLaws}
 use Rattle.x86_meaning.specs.Outcomes.{chosen}
@@ -46,24 +34,20 @@ use Rattle.flag_ir.specs.declared.variable.Term.{Term}
 use Rattle.flag_ir.specs.declared.variable.Term.TheVariants as term
 use Rattle.flag_ir.specs.declared.operation.Calc.{Calc}
 use Rattle.flag_ir.specs.declared.operation.Calc.TheVariants as calc
-use Rattle.flag_ir.specs.declared.operation.Op.{Op}
-use Rattle.flag_ir.specs.declared.operation.Op.TheVariants as op
 use Rattle.flag_ir.specs.Calculations.{calculate, sum_of, difference_of, and_of, or_of, xor_of, product_of, upper_product_of, shifted_of, equal_of, below_of, less_of}
-use Rattle.flag_ir.specs.Storage.{Storage, put_var, var_in, term_in}
-use Rattle.flag_ir.specs.Operations.{and_then, needed, load, store, with_memory, picked, divided_into, perform, shown_by}
-use Rattle.flag_ir.specs.Form.{IsVar, IsTerm, IsOp, IsFrameless}
+use Rattle.flag_ir.specs.Storage.{Storage, put_var, term_in}
+use Rattle.flag_ir.specs.Operations.{picked}
+use Rattle.flag_ir.specs.Form.{IsVar, IsTerm}
 use Rattle.named_code.specs.declared.slot.Slot.{Slot}
-use Rattle.named_code.specs.declared.slot.Slot.TheVariants.{Fixed, Name}
-use Rattle.named_code.specs.declared.named.VInstr.{VInstr}
-use Rattle.named_code.specs.Items.{Item, named_item, place_of}
-use Rattle.named_code.specs.Running.{CodeState, CodePoint, standing_at, act}
-use Rattle.instr_choose.specs.Lists.{name_of, slot_of, put, copy, alu_by, shift_by, set_if, move_if, multiply_by, divide_by, load_by, store_by, width_of, is_of, by_alu, by_multiply, by_shift, by_compare, choose_calc, choose_divide, choose_pick, choose_store, choose_system, choose_op}
-use Rattle.instr_choose.specs.Relation.{place_of_var, IsBelow, IsMetBy}
-use Rattle.instr_choose.proofs.Items.{with_place, with_flags, term_at, On, put_is, copy_is, alu_answer, alu_after, IsApart, alu_is, with_lowest_byte, set_is, move_if_is, shifted, shift_is, multiplied, multiply_is, divided, division_at, after_division, divide_is}
-use Rattle.instr_choose.proofs.Accesses.{IsAddress, after_load, load_is, after_store, from_of, store_is}
-use Rattle.instr_choose.proofs.Below.{here, elsewhere, apart_scratch, term_apart, IsBelowBut, but, over, flagged_but, scratch, flagged, sets, forgotten, term_below, word_itself}
-use Rattle.instr_choose.proofs.Comparing.{Says, equal_says, below_says, less_says, compared_less, picked_less, fits}
-use Rattle.instr_choose.proofs.Rules.{Comes, then, shows, fails, excused, ends, needs, each_size}
+use Rattle.named_code.specs.declared.slot.Slot.TheVariants.{Fixed}
+use Rattle.named_code.specs.Items.{named_item, place_of}
+use Rattle.named_code.specs.Running.{CodeState, CodePoint, standing_at}
+use Rattle.instr_choose.specs.Lists.{name_of, slot_of, put, copy, alu_by, is_of, by_alu, by_multiply, by_shift, by_compare, choose_calc, choose_pick}
+use Rattle.instr_choose.specs.Relation.{place_of_var, IsBelow}
+use Rattle.instr_choose.proofs.Items.{with_place, with_flags, term_at, put_is, copy_is, alu_answer, alu_after, IsApart, alu_is, with_lowest_byte, set_is, move_if_is, shifted, shift_is, multiplied, multiply_is}
+use Rattle.instr_choose.proofs.Below.{here, elsewhere, apart_scratch, term_apart, but, over, flagged_but, scratch, flagged, sets, term_below}
+use Rattle.instr_choose.proofs.Comparing.{equal_says, below_says, less_says, compared_less, picked_less}
+use Rattle.instr_choose.proofs.Rules.{Comes, then, ends}
 
 -- the laws of the crates below
 pub record LawsBelow : Type 0 where
@@ -179,11 +163,12 @@ module _ (laws : LawsBelow) where
       let h3 = scratch u low 2 p.high (omega arith) (scratch u _ 0 p.low (omega arith) (flagged u s2 p.flags h2)) in
       let x_less = subst (WordLessSpecified (term_in x u)) (sym (elsewhere 1 0 (term_at y s1) s1.cpu.regs (λ e. omega (arith, e)) ∙ here 0 (term_at x s) s.cpu.regs)) (value_below x u s j h) in
       let y_less = subst (WordLessSpecified (term_in y u)) (sym (here 1 (term_at y s1) s1.cpu.regs)) (value_below y u s1 k h1) in
-      let both = laws.products.multiply_less signed 4 _ _ _ _ refl x_less y_less in
-      (then s1 (put_is (Fixed Eax) x s) (then s2 (put_is (Fixed Ecx) y s1) (then s3 (multiply_is signed (Fixed Ecx) s2)
-      (result t _ (Fixed Eax) u s3 i (subst (WordLessSpecified (multiply signed 4 (term_in x u) (term_in y u)).low) (sym (elsewhere 2 0 p.high low.cpu.regs (λ e. omega (arith, e)) ∙ here 0 p.low s2.cpu.regs)) both.low) h3))),
-       then s1 (put_is (Fixed Eax) x s) (then s2 (put_is (Fixed Ecx) y s1) (then s3 (multiply_is signed (Fixed Ecx) s2)
-      (result t _ (Fixed Edx) u s3 i (subst (WordLessSpecified (multiply signed 4 (term_in x u) (term_in y u)).high) (sym (here 2 p.high low.cpu.regs)) both.high) h3))))
+      let both = laws.products.multiply_less signed 4 _ _ _ _ refl x_less y_less in (
+        then s1 (put_is (Fixed Eax) x s) (then s2 (put_is (Fixed Ecx) y s1) (then s3 (multiply_is signed (Fixed Ecx) s2)
+            (result t _ (Fixed Eax) u s3 i (subst (WordLessSpecified (multiply signed 4 (term_in x u) (term_in y u)).low) (sym (elsewhere 2 0 p.high low.cpu.regs (λ e. omega (arith, e)) ∙ here 0 p.low s2.cpu.regs)) both.low) h3))),
+        then s1 (put_is (Fixed Eax) x s) (then s2 (put_is (Fixed Ecx) y s1) (then s3 (multiply_is signed (Fixed Ecx) s2)
+            (result t _ (Fixed Edx) u s3 i (subst (WordLessSpecified (multiply signed 4 (term_in x u) (term_in y u)).high) (sym (here 2 p.high low.cpu.regs)) both.high) h3))),
+      )
 
   -- ---- shifts by CL
   shift_meets : (o : ShiftOp) (t : Var) (x y : Term) (u : Storage) (s : CodeState) → IsVar 0 t → IsTerm 0 x → IsTerm 0 y → IsBelow u s → Comes (Ok (put_var t (shift o 4 (term_in x u) (term_in y u).b0 no_flags).value u)) [] (map named_item (by_shift o t x y)) s

@@ -1,5 +1,5 @@
 -- What the flags of a comparison say of two numbers.
-use Rattle.std.proofs.Common.{◌≡◌, ◌≢◌, ℕ, ◌+◌, ◌-◌, ◌%◌, ◌<◌, ◌≤◌, ◌==◌, ◌&&◌, Bool, true, false, not, cond, leb, ltb, Option, Some, None, refl, sym, ap, ◌∙◌, subst, inl, inr, arith}
+use Rattle.std.proofs.Common.{◌≡◌, ℕ, ◌+◌, ◌-◌, ◌%◌, ◌<◌, ◌≤◌, ◌==◌, ◌&&◌, Bool, true, false, not, cond, leb, ltb, Option, Some, None, refl, ap, ◌∙◌, inl, inr, arith}
 use Rattle.std.proofs.lemmas.Bool.{eqb-true, eq-eqb, ne_eqb, le-leb, lt-leb, lt-ltb, le-ltb, cases_lt}
 use Rattle.x86_types.specs.declared.operation.Cond.{Cond}
 use Rattle.x86_types.specs.declared.operation.Cond.TheVariants as condition_of
@@ -9,7 +9,7 @@ use Rattle.x86_values.specs.WordLaws.{WordLaws}
 use Rattle.x86_values.specs.Sizes.{cut, number}
 use Rattle.x86_values.specs.Results.{differ}
 use Rattle.x86_values.specs.Sums.{raised, difference, sub}
-use Rattle.x86_values.specs.Conditions.{condition, of_two}
+use Rattle.x86_values.specs.Conditions.{condition}
 use Rattle.x86_values.specs.LessSpecified.{WordLessSpecified}
 use Rattle.x86_values.specs.LessSpecifiedLaws.{LessSpecifiedLaws}
 use Rattle.x86_meaning.specs.Outcomes.{chosen}

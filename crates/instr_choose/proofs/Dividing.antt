@@ -1,6 +1,5 @@
 -- Divisions are met by their lists.
-use Rattle.std.proofs.Common.{◌≡◌, ◌≢◌, ℕ, ◌+◌, ◌*◌, ◌/◌, ◌%◌, ◌<◌, ◌==◌, Bool, true, false, cond, List, [], ◌∷◌, map, Option, Some, None, Result, Ok, Err, refl, sym, ap, ap₂, ◌∙◌, subst, arith}
-use Rattle.traces.specs.Trace.{DivideFault, Unspecified, Go, Halt}
+use Rattle.std.proofs.Common.{◌≡◌, ℕ, ◌+◌, ◌*◌, ◌/◌, ◌%◌, ◌<◌, Bool, List, [], ◌∷◌, map, Some, Ok, refl, sym, ap, ◌∙◌, subst, arith}
 use Rattle.x86_values.specs.declared.byte.Byte.{Byte}
 use Rattle.x86_values.specs.declared.byte.Byte.TheVariants as byte
 use Rattle.x86_values.specs.declared.word.Word.{Word}
@@ -24,16 +23,15 @@ use Rattle.flag_ir.specs.declared.variable.Term.{Term}
 use Rattle.flag_ir.specs.Storage.{Storage, put_var, term_in}
 use Rattle.flag_ir.specs.Operations.{divided_into}
 use Rattle.flag_ir.specs.Form.{IsVar, IsTerm}
-use Rattle.named_code.specs.declared.slot.Slot.TheVariants.{Fixed, Name}
+use Rattle.named_code.specs.declared.slot.Slot.TheVariants.{Fixed}
 use Rattle.named_code.specs.Items.{Item, named_item}
-use Rattle.named_code.specs.Running.{CodeState, CodePoint, act}
-use Rattle.instr_choose.specs.Lists.{slot_of, put, copy, extend, copy_byte, shift_by, divide_by, byte_dividend, byte_results, choose_divide}
+use Rattle.named_code.specs.Running.{CodeState, act}
+use Rattle.instr_choose.specs.Lists.{slot_of, copy, extend, shift_by, byte_dividend, byte_results, choose_divide}
 use Rattle.instr_choose.specs.Relation.{place_of_var, IsBelow}
-use Rattle.instr_choose.proofs.Items as items
 use Rattle.instr_choose.proofs.Items.{with_place, with_flags, term_at, put_is, copy_is, extend_two_is, extend_one_is, extend_dl_is, shift_by_is, copy_byte_is, with_lowest_byte, divided, division_at, after_division, divide_is}
 use Rattle.instr_choose.proofs.Below.{here, elsewhere, but, scratch, flagged, sets}
 use Rattle.instr_choose.proofs.Rules.{Comes, then, fails, excused, ends}
-use Rattle.instr_choose.proofs.Quotients.{IsCut, AreCut, IsSmall, one, two, cut_itself, cut_word, divided_cut}
+use Rattle.instr_choose.proofs.Quotients.{IsCut, AreCut, IsSmall, one, two, cut_word, divided_cut}
 use Rattle.instr_choose.proofs.Choosing.{LawsBelow, value_below, result}
 
 -- a list that goes on behind a division
@@ -120,13 +118,13 @@ module _ (laws : LawsBelow) where
       let high_less = subst (WordLessSpecified (term_in high u)) (sym (elsewhere 0 2 (term_at low s2) s2.cpu.regs (λ e. omega (arith, e)) ∙ here 2 (term_at high s1) s1.cpu.regs)) (value_below laws high u s1 k h1) in
       let by_less = subst (WordLessSpecified (term_in by u)) (sym (elsewhere 0 1 (term_at low s2) s2.cpu.regs (λ e. omega (arith, e)) ∙ elsewhere 2 1 (term_at high s1) s1.cpu.regs (λ e. omega (arith, e)) ∙ here 1 (term_at by s) s.cpu.regs)) (value_below laws by u s n h) in
       let less = subst (λ (d : Divided). DividedLessSpecified d (division_at signed Two s3)) (by_lowest_two signed (term_in high u) (term_in low u) (term_in by u))
-          (laws.divisions.divide_less signed 2 _ _ _ _ _ _ refl (laws.less.lowest 2 _ _ high_less) (laws.less.lowest 2 _ _ low_less) (laws.less.lowest 2 _ _ by_less)) in
+      (laws.divisions.divide_less signed 2 _ _ _ _ _ _ refl (laws.less.lowest 2 _ _ high_less) (laws.less.lowest 2 _ _ low_less) (laws.less.lowest 2 _ _ by_less)) in
       then s1 (put_is (Fixed Ecx) by s)
       (then s2 (put_is (Fixed Edx) high s1)
       (then s3 (put_is (Fixed Eax) low s2)
       (by_divided Two _ (division_at signed Two s3) q r u s3 _ _ less (divide_is signed Two s3)
       (λ a b a' b' e a_less b_less. let cuts : AreCut 2 (divide_to.Got a b) = subst (AreCut 2) e (divided_cut signed 2 (term_in high u) (term_in low u) (term_in by u) two (divisor_fits 2 _ _ refl by_less)) in
-       tail s3 a b a' b' h3 (less_cut 2 a a' two cuts.0 a_less) (less_cut 2 b b' two cuts.1 b_less)))))
+      tail s3 a b a' b' h3 (less_cut 2 a a' two cuts.0 a_less) (less_cut 2 b b' two cuts.1 b_less)))))
     where
       tail : (s : CodeState) (a b a' b' : Word) → IsBelow u s → WordLessSpecified a (cut 2 a') → WordLessSpecified b (cut 2 b') → Comes (Ok (put_var r b (put_var q a u))) [] (map named_item (extend Two (slot_of q) (Fixed Eax) ∷ extend Two (slot_of r) (Fixed Edx) ∷ [])) (divided Two a' b' s)
       tail s a b a' b' h a_less b_less =
@@ -193,19 +191,19 @@ module _ (laws : LawsBelow) where
       let a_is : s5.cpu.regs 0 ≡ a.value = elsewhere 2 0 (term_at low s4) s4.cpu.regs (λ e. omega (arith, e)) ∙ here 0 a.value s3.cpu.regs in
       let y_is : s6.cpu.regs 0 ≡ y = here 0 y s5.cpu.regs in
       let upper_less : WordLessSpecified (cut 1 (term_in high u)) (padded ((s6.cpu.regs 0).b1 ∷ [])) =
-          subst (λ (z : Word). WordLessSpecified (cut 1 (term_in high u)) (padded (z.b1 ∷ []))) (sym y_is)
-          (subst (λ (z : Word). WordLessSpecified (cut 1 (term_in high u)) (padded (z.b1 ∷ []))) (sym a_is)
-          (subst (λ (z : Word). WordLessSpecified (cut 1 (term_in high u)) (padded ((shift shiftop.Shl 4 z (word_of 8).b0 s3.cpu.flags).value.b1 ∷ []))) (sym x_is) (raised_less (term_in high u) (s2.cpu.regs 2) s3.cpu.flags high_less))) in
+      subst (λ (z : Word). WordLessSpecified (cut 1 (term_in high u)) (padded (z.b1 ∷ []))) (sym y_is)
+      (subst (λ (z : Word). WordLessSpecified (cut 1 (term_in high u)) (padded (z.b1 ∷ []))) (sym a_is)
+      (subst (λ (z : Word). WordLessSpecified (cut 1 (term_in high u)) (padded ((shift shiftop.Shl 4 z (word_of 8).b0 s3.cpu.flags).value.b1 ∷ []))) (sym x_is) (raised_less (term_in high u) (s2.cpu.regs 2) s3.cpu.flags high_less))) in
       let low_is : s5.cpu.regs 2 ≡ term_at low s4 = here 2 (term_at low s4) s4.cpu.regs in
       let low_less : WordLessSpecified (cut 1 (term_in low u)) (cut 1 (s6.cpu.regs 0)) =
-          subst (λ (z : Word). WordLessSpecified (cut 1 (term_in low u)) (cut 1 z)) (sym y_is) (lowest_less (term_in low u) (s5.cpu.regs 2) (s5.cpu.regs 0) (subst (WordLessSpecified (term_in low u)) (sym low_is) (value_below laws low u s4 l h4))) in
+      subst (λ (z : Word). WordLessSpecified (cut 1 (term_in low u)) (cut 1 z)) (sym y_is) (lowest_less (term_in low u) (s5.cpu.regs 2) (s5.cpu.regs 0) (subst (WordLessSpecified (term_in low u)) (sym low_is) (value_below laws low u s4 l h4))) in
       let by_is : s6.cpu.regs 1 ≡ term_at by s =
-          elsewhere 0 1 y s5.cpu.regs (λ e. omega (arith, e)) ∙ elsewhere 2 1 (term_at low s4) s4.cpu.regs (λ e. omega (arith, e)) ∙ elsewhere 0 1 a.value s3.cpu.regs (λ e. omega (arith, e)) ∙ elsewhere 0 1 x s2.cpu.regs (λ e. omega (arith, e))
-          ∙ elsewhere 2 1 (term_at high s1) s1.cpu.regs (λ e. omega (arith, e)) ∙ here 1 (term_at by s) s.cpu.regs in
+      elsewhere 0 1 y s5.cpu.regs (λ e. omega (arith, e)) ∙ elsewhere 2 1 (term_at low s4) s4.cpu.regs (λ e. omega (arith, e)) ∙ elsewhere 0 1 a.value s3.cpu.regs (λ e. omega (arith, e)) ∙ elsewhere 0 1 x s2.cpu.regs (λ e. omega (arith, e))
+      ∙ elsewhere 2 1 (term_at high s1) s1.cpu.regs (λ e. omega (arith, e)) ∙ here 1 (term_at by s) s.cpu.regs in
       let by_less : WordLessSpecified (term_in by u) (s6.cpu.regs 1) = subst (WordLessSpecified (term_in by u)) (sym by_is) (value_below laws by u s n h) in
       let less : DividedLessSpecified (divide signed 1 (term_in high u) (term_in low u) (term_in by u)) (division_at signed One s6) =
-          subst (λ (d : Divided). DividedLessSpecified d (division_at signed One s6)) (by_lowest_one signed (term_in high u) (term_in low u) (term_in by u))
-          (laws.divisions.divide_less signed 1 _ _ _ _ _ _ refl upper_less low_less (laws.less.lowest 1 _ _ by_less)) in
+      subst (λ (d : Divided). DividedLessSpecified d (division_at signed One s6)) (by_lowest_one signed (term_in high u) (term_in low u) (term_in by u))
+      (laws.divisions.divide_less signed 1 _ _ _ _ _ _ refl upper_less low_less (laws.less.lowest 1 _ _ by_less)) in
       then s1 (put_is (Fixed Ecx) by s)
       (then s2 (put_is (Fixed Edx) high s1)
       (then s3 (extend_dl_is (Fixed Eax) s2)
@@ -214,7 +212,7 @@ module _ (laws : LawsBelow) where
       (then s6 (copy_byte_is s5)
       (by_divided One _ (division_at signed One s6) q r u s6 _ _ less (divide_is signed One s6)
       (λ a b a' b' e a_less b_less. let cuts : AreCut 1 (divide_to.Got a b) = subst (AreCut 1) e (divided_cut signed 1 (term_in high u) (term_in low u) (term_in by u) one (divisor_fits 1 _ _ refl by_less)) in
-       tail s6 a b a' b' h6 cuts.0 cuts.1 a_less b_less)))))))
+      tail s6 a b a' b' h6 cuts.0 cuts.1 a_less b_less)))))))
     where
       tail : (s : CodeState) (a b a' b' : Word) → IsBelow u s → IsCut 1 a → IsCut 1 b → WordLessSpecified a a' → WordLessSpecified b b'
           → Comes (Ok (put_var r b (put_var q a u))) [] (map named_item (extend One (slot_of q) (Fixed Eax) ∷ extend Two (Fixed Eax) (Fixed Eax) ∷ shift_by shiftop.Shr (count.Imm 8) (Fixed Eax) ∷ copy (slot_of r) (Fixed Eax) ∷ [])) (divided One a' b' s)
@@ -236,8 +234,8 @@ module _ (laws : LawsBelow) where
           let w_is : t3.cpu.regs 0 ≡ cut 2 y = here 0 w t2.cpu.regs ∙ ap (cut 2) t2_is in
           let z = shift shiftop.Shr 4 (t3.cpu.regs 0) (word_of 8).b0 t3.cpu.flags in
           let z_is : z.value ≡ word_of b_cut.number =
-              ap (λ (m : Word). (shift shiftop.Shr 4 m (word_of 8).b0 t3.cpu.flags).value) w_is
-              ∙ lowered_word a_cut.number b_cut.number y t3.cpu.flags a_cut.fits b_cut.fits (known_byte_of a_cut.number a a' a_cut.fits a_cut.is a_less) (known_byte_of b_cut.number b b' b_cut.fits b_cut.is b_less) in
+          ap (λ (m : Word). (shift shiftop.Shr 4 m (word_of 8).b0 t3.cpu.flags).value) w_is
+          ∙ lowered_word a_cut.number b_cut.number y t3.cpu.flags a_cut.fits b_cut.fits (known_byte_of a_cut.number a a' a_cut.fits a_cut.is a_less) (known_byte_of b_cut.number b b' b_cut.fits b_cut.is b_less) in
           let t4 = with_place 0 z.value (with_flags z.flags t3) in
           let g4 = scratch (put_var q a u) _ 0 z.value (omega arith) (flagged (put_var q a u) t3 z.flags g3) in
           let r_is : t4.cpu.regs 0 ≡ b = here 0 z.value t3.cpu.regs ∙ z_is ∙ sym b_cut.is in

@@ -1,11 +1,11 @@
 -- What the chosen instructions do to places.
-use Rattle.std.proofs.Common.{◌≡◌, ◌≢◌, ℕ, ◌+◌, ◌==◌, ◌%◌, Bool, true, false, cond, List, [], ◌∷◌, Option, Some, None, Result, Ok, Err, refl, sym, ap, ◌∙◌, subst}
+use Rattle.std.proofs.Common.{◌≡◌, ℕ, ◌==◌, Bool, true, false, List, [], ◌∷◌, Some, refl}
 use Rattle.traces.specs.Trace.{Move, Go, Halt}
 use Rattle.x86_values.specs.declared.word.Word.{Word}
 use Rattle.x86_values.specs.declared.word.Flags.{Flags}
 use Rattle.x86_values.specs.declared.answered.Answered.{Answered}
 use Rattle.x86_values.specs.declared.logic.Bit.TheVariants as bit
-use Rattle.x86_values.specs.Words.{word_of, known, padded, word_list}
+use Rattle.x86_values.specs.Words.{word_of, padded}
 use Rattle.x86_values.specs.Sums.{add, sub}
 use Rattle.x86_values.specs.Logic.{bitwise}
 use Rattle.x86_values.specs.Shifts.{shift}
@@ -14,7 +14,7 @@ use Rattle.x86_types.specs.declared.operation.AluOp.{AluOp}
 use Rattle.x86_types.specs.declared.operation.AluOp.TheVariants as alu
 use Rattle.x86_types.specs.declared.operation.ShiftOp.{ShiftOp}
 use Rattle.x86_types.specs.declared.operation.Count.TheVariants as count
-use Rattle.x86_types.specs.declared.operand.Reg.TheVariants.{Eax, Ecx, Edx, Ebx}
+use Rattle.x86_types.specs.declared.operand.Reg.TheVariants.{Eax, Ecx, Edx}
 use Rattle.x86_types.specs.declared.width.Width.TheVariants.{One, Two, Four}
 use Rattle.x86_types.specs.declared.operation.Cond.{Cond}
 use Rattle.x86_types.specs.declared.width.Width.{Width}
@@ -42,7 +42,7 @@ use Rattle.flag_ir.specs.declared.variable.Var.{Var}
 use Rattle.flag_ir.specs.declared.variable.Term.{Term}
 use Rattle.flag_ir.specs.declared.variable.Term.TheVariants as term
 use Rattle.named_code.specs.declared.slot.Slot.{Slot}
-use Rattle.named_code.specs.declared.slot.Slot.TheVariants.{Fixed, Name}
+use Rattle.named_code.specs.declared.slot.Slot.TheVariants.{Fixed}
 use Rattle.named_code.specs.declared.named.VInstr.{VInstr}
 use Rattle.named_code.specs.Items.{Item, named_item, place_of}
 use Rattle.named_code.specs.Running.{CodeState, CodePoint, CodePosition, standing_at, after_call, by_loads, act}

@@ -1,16 +1,15 @@
 -- Each operation of a lowered unit is met by its list.
-use Rattle.std.proofs.Common.{◌≡◌, ◌≢◌, ℕ, List, [], ◌∷◌, map, Ok, refl, subst}
-use Rattle.x86_values.specs.Sizes.{IsSize}
+use Rattle.std.proofs.Common.{ℕ, map}
 use Rattle.x86_types.specs.declared.width.Width.TheVariants.{One, Two, Four}
 use Rattle.flag_ir.specs.declared.operation.Op.{Op}
 use Rattle.flag_ir.specs.declared.operation.Op.TheVariants as op
-use Rattle.flag_ir.specs.Storage.{Storage, term_in}
+use Rattle.flag_ir.specs.Storage.{Storage}
 use Rattle.flag_ir.specs.Operations.{perform, shown_by}
-use Rattle.flag_ir.specs.Form.{IsVar, IsTerm, IsOp, IsFrameless}
+use Rattle.flag_ir.specs.Form.{IsOp, IsFrameless}
 use Rattle.named_code.specs.Items.{named_item}
 use Rattle.named_code.specs.Running.{CodeState}
 use Rattle.instr_choose.specs.Lists.{choose_op}
-use Rattle.instr_choose.specs.Relation.{IsBelow, IsMetBy, ChoosingLaws}
+use Rattle.instr_choose.specs.Relation.{IsBelow, ChoosingLaws}
 use Rattle.instr_choose.proofs.Below.{forgotten}
 use Rattle.instr_choose.proofs.Rules.{Comes, ends, needs, each_size}
 use Rattle.instr_choose.proofs.Choosing.{LawsBelow, set_meets, pick_meets, calc_meets}

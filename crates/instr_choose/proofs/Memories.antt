@@ -1,14 +1,13 @@
 -- Loads, stores and calls are met by their lists.
-use Rattle.std.proofs.Common.{◌≡◌, ◌≢◌, ℕ, ◌+◌, ◌<◌, ◌==◌, Bool, true, false, cond, List, [], ◌∷◌, ◌++◌, All, map, take, Option, Some, None, Result, Ok, Err, refl, sym, ap, ◌∙◌, subst, arith}
+use Rattle.std.proofs.Common.{◌≡◌, ◌≢◌, ℕ, Bool, true, false, cond, List, [], ◌∷◌, All, map, take, Option, Some, None, Ok, Err, refl, sym, ap, ◌∙◌, subst, arith}
 use Rattle.std.proofs.lemmas.List.{append-nil}
 use Rattle.std.proofs.lemmas.List.Elements.{All-head, All-tail}
 use Rattle.outside.specs.Environment.{Environment, IsEnvironment}
-use Rattle.traces.specs.Trace.{Label, End, Exited, MemoryFault, DivideFault, Outside, OtherCall, Unspecified, Guard, Stopped, Go, Halt}
+use Rattle.traces.specs.Trace.{Label, End, Exited, MemoryFault, DivideFault, Outside, OtherCall, Unspecified, Guard, Stopped}
 use Rattle.x86_values.specs.declared.byte.Byte.{Byte}
 use Rattle.x86_values.specs.declared.byte.Byte.TheVariants as byte
 use Rattle.x86_values.specs.declared.word.Word.{Word}
 use Rattle.x86_values.specs.Words.{word_of, known, word_list, padded, IsByte}
-use Rattle.x86_values.specs.Sizes.{IsSize}
 use Rattle.x86_values.specs.LessSpecified.{ByteLessSpecified, WordLessSpecified, BytesLessSpecified}
 use Rattle.x86_types.specs.declared.operand.Reg.TheVariants.{Eax, Ecx, Edx, Ebx}
 use Rattle.x86_types.specs.declared.width.Width.{Width}
@@ -27,17 +26,16 @@ use Rattle.flag_ir.specs.declared.variable.Term.TheVariants as term
 use Rattle.flag_ir.specs.Storage.{Storage, put_var, var_in, term_in}
 use Rattle.flag_ir.specs.Operations.{and_then, needed, load, store, with_memory, called, labels_of, call_in, request_in}
 use Rattle.flag_ir.specs.Form.{IsVar, IsTerm}
-use Rattle.named_code.specs.declared.slot.Slot.{Slot}
 use Rattle.named_code.specs.declared.slot.Slot.TheVariants.{Fixed, Name}
 use Rattle.named_code.specs.Items.{Item, named_item, place_of}
-use Rattle.named_code.specs.Running.{CodeState, CodePoint, standing_at, after_call, act}
-use Rattle.instr_choose.specs.Lists.{made, slot_of, put, copy, load_by, store_by, choose_store, choose_system}
+use Rattle.named_code.specs.Running.{CodeState, after_call, act}
+use Rattle.instr_choose.specs.Lists.{made, slot_of, copy, load_by, store_by, choose_store, choose_system}
 use Rattle.instr_choose.specs.Relation.{place_of_var, IsBelow}
-use Rattle.instr_choose.proofs.Items.{with_place, term_at, put_is, copy_is, call_is}
+use Rattle.instr_choose.proofs.Items.{with_place, put_is, copy_is, call_is}
 use Rattle.instr_choose.proofs.Accesses.{IsAddress, after_load, load_is, after_store, from_of, store_is}
 use Rattle.instr_choose.proofs.Below.{here, elsewhere, but, scratch, sets}
 use Rattle.instr_choose.proofs.Comparing.{fits}
-use Rattle.instr_choose.proofs.Rules.{Comes, then, shows, fails, excused, ends, needs}
+use Rattle.instr_choose.proofs.Rules.{Comes, then, shows, fails, ends, needs}
 use Rattle.instr_choose.proofs.Choosing.{LawsBelow, value_below, result}
 
 zero_byte : ByteLessSpecified (byte.Known 0) (byte.Known 0)
@@ -164,8 +162,8 @@ module _ (laws : LawsBelow) where
       let less_1 = subst (WordLessSpecified (u.regs 1)) (sym (elsewhere 2 1 (s3.cpu.regs 10) s3.cpu.regs (λ e. omega (arith, e)) ∙ here 1 (s2.cpu.regs 9) s2.cpu.regs)) (h2.vars (var.Reg 1) (omega arith)) in
       let less_2 = subst (WordLessSpecified (u.regs 2)) (sym (here 2 (s3.cpu.regs 10) s3.cpu.regs)) (h3.vars (var.Reg 2) (omega arith)) in
       let same : CalledLessSpecified (call_in u) (system_call (request_of s4.cpu) s4.memory s4.left) =
-          subst (λ (l : Environment). CalledLessSpecified (call_in u) (system_call (request_of s4.cpu) s4.memory l)) h.left
-          (laws.memory.call (request_in u) (request_of s4.cpu) u.memory s.memory u.left (record { number = less_0; fd = less_3; at = less_1; count = less_2 }) h.memory) in
+      subst (λ (l : Environment). CalledLessSpecified (call_in u) (system_call (request_of s4.cpu) s4.memory l)) h.left
+      (laws.memory.call (request_in u) (request_of s4.cpu) u.memory s.memory u.left (record { number = less_0; fd = less_3; at = less_1; count = less_2 }) h.memory) in
       then s1 (copy_is (Fixed Eax) (Name 0) s)
       (then s2 (copy_is (Fixed Ebx) (Name 3) s1)
       (then s3 (copy_is (Fixed Ecx) (Name 1) s2)

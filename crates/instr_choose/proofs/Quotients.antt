@@ -1,15 +1,14 @@
 -- Quotients and remainders are numbers of their size.
-use Rattle.std.proofs.Common.{◌≡◌, ◌≢◌, ℕ, ◌+◌, ◌-◌, ◌*◌, ◌/◌, ◌%◌, ◌<◌, ◌≤◌, ◌==◌, Bool, true, false, cond, leb, ltb, Option, Some, None, refl, sym, ap, ap₂, ◌∙◌, subst, arith}
-use Rattle.std.proofs.lemmas.Bool.{leb-true, leb-false, ltb-false, eqb-false, eq-eqb, ne_eqb}
+use Rattle.std.proofs.Common.{◌≡◌, ◌≢◌, ℕ, ◌+◌, ◌-◌, ◌*◌, ◌/◌, ◌%◌, ◌<◌, ◌≤◌, ◌==◌, Bool, true, false, cond, leb, Option, Some, None, refl, sym, ap, ◌∙◌, arith}
+use Rattle.std.proofs.lemmas.Bool.{leb-true, leb-false, eqb-false}
 use Rattle.std.proofs.lemmas.Nat.{mod_below}
-use Rattle.x86_values.specs.declared.byte.Byte.TheVariants as byte
 use Rattle.x86_values.specs.declared.word.Word.{Word}
 use Rattle.x86_values.specs.declared.divided.Divided.{Divided}
 use Rattle.x86_values.specs.declared.divided.Divided.TheVariants as divide_to
-use Rattle.x86_values.specs.Words.{word_of, known}
+use Rattle.x86_values.specs.Words.{word_of}
 use Rattle.x86_values.specs.Sizes.{cut, number, full, half, is_negative}
 use Rattle.x86_values.specs.Results.{differ}
-use Rattle.x86_values.specs.Divisions.{negated, with_sign, too_great, unsigned_quotient, signed_quotient, quotient, quotient_of, divide}
+use Rattle.x86_values.specs.Divisions.{with_sign, too_great, quotient, quotient_of, divide}
 
 -- a word is that of a number of a size
 pub record IsCut (size : ℕ) (w : Word) : Type 0 where

@@ -1,5 +1,5 @@
 -- How a list meets an operation, an instruction at a time.
-use Rattle.std.proofs.Common.{◌≡◌, ◌≢◌, ℕ, ◌==◌, ◌||◌, Bool, true, false, List, [], ◌∷◌, ◌++◌, Option, Some, None, Result, Ok, Err, refl, sym, ap, ◌∙◌, subst, inl, inr, arith}
+use Rattle.std.proofs.Common.{◌≡◌, ◌≢◌, ℕ, ◌==◌, ◌||◌, List, [], ◌∷◌, ◌++◌, Option, Some, None, Result, Ok, Err, refl, sym, subst, inl, inr}
 use Rattle.std.proofs.lemmas.Bool.{eqb-true, or_cases}
 use Rattle.traces.specs.Trace.{Label, End, Go, Halt, Unspecified}
 use Rattle.x86_values.specs.Sizes.{IsSize}
@@ -7,7 +7,7 @@ use Rattle.flag_ir.specs.Storage.{Storage}
 use Rattle.flag_ir.specs.Operations.{and_then, needed}
 use Rattle.named_code.specs.Items.{Item}
 use Rattle.named_code.specs.Running.{CodeState, CodePoint, standing_at, act}
-use Rattle.instr_choose.specs.Relation.{IsBelow, Passes, done, more, Fails, here, later, PassesTo, IsMetBy}
+use Rattle.instr_choose.specs.Relation.{IsBelow, done, more, here, later, IsMetBy}
 
 -- a record, so that its parts are found
 pub record Comes (r : Result Storage End) (ls : List Label) (xs : List Item) (s : CodeState) : Type 0 where

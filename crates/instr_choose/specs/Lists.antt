@@ -1,5 +1,5 @@
 -- Which instructions are chosen for an operation. All of this is own.
-use Rattle.std.specs.Prelude.{ℕ, ◌+◌, ◌==◌, Bool, true, false, cond, List, [], ◌∷◌, ◌++◌, Option, Some, None}
+use Rattle.std.specs.Prelude.{ℕ, ◌+◌, ◌==◌, Bool, true, false, cond, List, [], ◌∷◌, ◌++◌, Some, None}
 use Rattle.x86_types.specs.declared.operand.Reg.{Reg}
 use Rattle.x86_types.specs.declared.operand.Reg.TheVariants.{Eax, Ecx, Edx, Ebx}
 use Rattle.x86_types.specs.declared.operand.Rm.TheVariants as rm

@@ -1,5 +1,5 @@
 -- A lowered unit's storage beside the places of its variables, and what a list owes to its operation. All of this is own.
-use Rattle.std.specs.Prelude.{◌≡◌, ◌≢◌, ℕ, ◌+◌, List, [], ◌∷◌, ◌++◌, map, Result, Ok, Err}
+use Rattle.std.specs.Prelude.{◌≡◌, ◌≢◌, ℕ, List, [], ◌∷◌, ◌++◌, map, Result, Ok, Err}
 use Rattle.outside.specs.Environment.{IsEnvironment}
 use Rattle.x86_values.specs.LessSpecified.{WordLessSpecified}
 use Rattle.traces.specs.Trace.{Label, End, Go, Halt, Unspecified}

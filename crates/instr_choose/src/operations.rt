@@ -59,11 +59,7 @@ fn choose_system(alloc: Global, code: &mut Vec<VInstr>) -> Result<(), AllocError
 
 /// Appends the list of an operation.
 #[tactic(auto, unfolding(crate::specs::Lists::choose_op))]
-pub(crate) fn choose_op(
-    alloc: Global,
-    code: &mut Vec<VInstr>,
-    op: Op,
-) -> Result<(), AllocError>
+pub(crate) fn choose_op(alloc: Global, code: &mut Vec<VInstr>, op: Op) -> Result<(), AllocError>
     requires { OpHasNames op }
     ensures { OnOk result (code.new.items ≡ code.old.items ++ choose_op op) }
 {
