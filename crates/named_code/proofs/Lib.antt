@@ -1,1 +1,5 @@
 mod CodeRows
+pub mod Courses
+pub mod CodeMoves
+pub mod Weighing
+pub mod CodeRuns

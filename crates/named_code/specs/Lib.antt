@@ -1,6 +1,8 @@
+pub mod CodeLaws
 pub mod CodeRun
 pub mod CodeRows
 pub mod Form
 pub mod Items
 pub mod RowParts
 pub mod Running
+pub mod Weight

@@ -13,6 +13,13 @@ pub enum Slot {
     Name(u32),
 }
 
+/// The name 0, as what stands in an array before slots are written to it.
+impl Default for Slot {
+    fn default() -> Slot {
+        Slot::Name(0)
+    }
+}
+
 /// The slots of an instruction. It is made from a `SmallVec` and gives its slots without taking memory.
 #[derive(Drop)]
 pub struct SlotList {

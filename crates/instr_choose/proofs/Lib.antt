@@ -1,0 +1,12 @@
+pub mod Items
+pub mod Accesses
+pub mod Below
+pub mod Comparing
+pub mod Rules
+pub mod Choosing
+pub mod Memories
+pub mod Quotients
+pub mod Dividing
+pub mod Meeting
+pub mod Growing
+pub mod SmallUnits

@@ -1,0 +1,6 @@
+use Rattle.std.proofs.Common.{◌≡◌, take}
+use Rattle.instr_choose.specs.Lists.{choose_ops}
+use Rattle.instr_choose.proofs.blocks.choose_ops.Given as goal
+
+abbrev pub invariant-loop-op : goal.invariant-loop-op
+invariant-loop-op l = l.code.items ≡ choose_ops (take l.op-index l.ops)
