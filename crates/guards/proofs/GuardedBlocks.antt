@@ -16,7 +16,7 @@ use Rattle.flag_ir.specs.Entering.{CodeUnit, Onward, before_block, blocks_of, in
 use Rattle.flag_ir.specs.Form.{IsFramelessExit}
 use Rattle.guards.specs.Temporaries.{IsExitBelow}
 use Rattle.guards.specs.Guarding.{is_stop, has_loose_stop, guarded_block, guarded_unit}
-use Rattle.guards.specs.States.{Beside, NamesTurn}
+use Rattle.guards.specs.States.{DiffersByArea, NamesTurn}
 use Rattle.guards.proofs.Sides.{term_same}
 
 -- ---- lists
@@ -80,7 +80,7 @@ alike_by : (u v : CodeUnit) (t : ℕ) (e : Exit) (x y : Storage) (o : Option ℕ
 alike_by u v t e x y None f g h = ends f g h
 alike_by u v t e x y (Some k) f g h = goes k g h
 
-module _ (u : CodeUnit) (plain : u.lowered ≡ false) (alone : u.procs ≡ []) (t : ℕ) (x y : Storage) (h : Beside x y) where
+module _ (u : CodeUnit) (plain : u.lowered ≡ false) (alone : u.procs ≡ []) (t : ℕ) (x y : Storage) (h : DiffersByArea x y) where
   leaves_go : (n : ℕ) → LeaveAlike u (guarded_unit u) t (exit.Go n) x y
   unfolding leave
   leaves_go n = alike_by u (guarded_unit u) t (exit.Go n) x y (index_of_number n u.whole) Outside (number_is u n x h.no_frame) (number_is (guarded_unit u) n y h.no_frame' ∙ ap (λ o. before_block o Outside y) (number_mapped (has_loose_stop u.whole) n u.whole))

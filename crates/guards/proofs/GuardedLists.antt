@@ -16,7 +16,7 @@ use Rattle.flag_ir.specs.Form.{IsOp, IsFrameless}
 use Rattle.private_memory.specs.PrivateAreaLaws.{UsualLaws, PrivateAccessLaws}
 use Rattle.guards.specs.Temporaries.{IsOpBelow}
 use Rattle.guards.specs.Guarding.{literal, guarded_load, guarded_store, guarded_system, guarded, guarded_ops}
-use Rattle.guards.specs.States.{Beside, IsKept}
+use Rattle.guards.specs.States.{DiffersByArea, IsLoweredStorage}
 use Rattle.guards.proofs.Sides.{SameArea, BothGo, Meets}
 use Rattle.guards.proofs.GuardedRuns.{op_meets, op_shown}
 use Rattle.guards.proofs.Keeping.{all_first, all_rest, ops_keep}
@@ -64,7 +64,7 @@ module _ (words : WordLaws) (memory : MemoryLaws) (usual : UsualLaws) (area : Pr
   area_then m n (Err e) (Ok v) a h = h
   area_then m n (Err e) (Err f) a h = h
 
-  pub runs_alike : (ops : List Op) (u v : Storage) → AreOps ops → Beside u v → IsKept v → RunsAlike u v ops
+  pub runs_alike : (ops : List Op) (u v : Storage) → AreOps ops → DiffersByArea u v → IsLoweredStorage v → RunsAlike u v ops
   unfolding performs shown_by_all
   runs_alike [] u v asked h kept = record { meets = record { beside = h; area = record { places = λ a p. refl } }; shows = refl }
   runs_alike (o ∷ os) u v asked h kept =

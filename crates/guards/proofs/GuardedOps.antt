@@ -21,12 +21,12 @@ use Rattle.flag_ir.specs.Operations.{and_then, needed, load, store, with_memory,
 use Rattle.private_memory.specs.PrivateArea.{is_private, without_private, HasPrivateArea}
 use Rattle.private_memory.specs.PrivateAreaLaws.{UsualLaws, PrivateAccessLaws}
 use Rattle.guards.specs.Temporaries.{IsOpBelow}
-use Rattle.guards.specs.States.{Beside}
+use Rattle.guards.specs.States.{DiffersByArea}
 use Rattle.guards.proofs.Addresses.{StandsFor}
 use Rattle.guards.proofs.Sides.{term_same, put_beside, put_memory, SameArea, Meets, put_meets, needed_meets}
 
 -- ---- operations that access no memory
-divided_meets : (d e : Divided) (q r : Var) (u v : Storage) → Beside u v → d ≡ e → Meets v.memory (divided_into d q r u) (divided_into e q r v)
+divided_meets : (d e : Divided) (q r : Var) (u v : Storage) → DiffersByArea u v → d ≡ e → Meets v.memory (divided_into d q r u) (divided_into e q r v)
 divided_meets d e q r u v h is = subst (λ x. Meets v.memory (divided_into x q r u) (divided_into e q r v)) (sym is) (by e)
   where
     by : (x : Divided) → Meets v.memory (divided_into x q r u) (divided_into x q r v)
@@ -48,7 +48,7 @@ IsPlain (op.Get to size offset) = ⊥
 IsPlain (op.Put size offset from) = ⊥
 IsPlain _ = Unit {0}
 
-pub plain_meets : (turn : ℕ) (o : Op) (u v : Storage) → IsPlain o → IsOpBelow 1399997 o → Beside u v → Meets v.memory (perform turn o u) (perform turn o v)
+pub plain_meets : (turn : ℕ) (o : Op) (u v : Storage) → IsPlain o → IsOpBelow 1399997 o → DiffersByArea u v → Meets v.memory (perform turn o u) (perform turn o v)
 unfolding perform
 plain_meets turn (op.Set to from) u v plain b h = put_meets to _ _ u v h (term_same from u v h b.1)
 plain_meets turn (op.Calc to c left right) u v plain b h = put_meets to _ _ u v h (λ i. calculate c (term_same left u v h b.1 i) (term_same right u v h b.2 i))
@@ -81,7 +81,7 @@ stands_meets m w z f g s inside outside = by (known w) refl
     by None e = at None (and_then (needed None) f) (s.none e) refl
     by (Some a) e = by_place a (is_private a) e refl
 
-loaded_meets : (m : Memory) (to : Var) (r s : Result Word End) (u v : Storage) → r ≡ s → Beside u v → v.memory ≡ m → Meets m (and_then r (λ w. Ok (put_var to w u))) (and_then s (λ w. Ok (put_var to w v)))
+loaded_meets : (m : Memory) (to : Var) (r s : Result Word End) (u v : Storage) → r ≡ s → DiffersByArea u v → v.memory ≡ m → Meets m (and_then r (λ w. Ok (put_var to w u))) (and_then s (λ w. Ok (put_var to w v)))
 loaded_meets m to r s u v e h is = subst (λ q. Meets m (and_then q (λ w. Ok (put_var to w u))) (and_then s (λ w. Ok (put_var to w v)))) (sym e) (subst (λ n. Meets n (and_then s (λ w. Ok (put_var to w u))) (and_then s (λ w. Ok (put_var to w v)))) is (by s))
   where
     by : (s : Result Word End) → Meets v.memory (and_then s (λ w. Ok (put_var to w u))) (and_then s (λ w. Ok (put_var to w v)))
@@ -114,7 +114,7 @@ module _ (words : WordLaws) (memory : MemoryLaws) (usual : UsualLaws) (area : Pr
       by true e = ap (λ bs. Ok (padded bs)) (area.loads Load m a size has p e)
       by false e = refl
 
-  pub load_meets : (to : Var) (size : ℕ) (w z : Word) (u v : Storage) → IsSize size → HasPrivateArea v.memory → Beside u v → StandsFor w z →
+  pub load_meets : (to : Var) (size : ℕ) (w z : Word) (u v : Storage) → IsSize size → HasPrivateArea v.memory → DiffersByArea u v → StandsFor w z →
       Meets v.memory (and_then (needed (known w)) (λ a. and_then (load size u.memory a) (λ x. Ok (put_var to x u)))) (and_then (needed (known z)) (λ a. and_then (load size v.memory a) (λ x. Ok (put_var to x v))))
   load_meets to size w z u v sized has h s =
       stands_meets v.memory w z _ _ s
@@ -122,7 +122,7 @@ module _ (words : WordLaws) (memory : MemoryLaws) (usual : UsualLaws) (area : Pr
       (λ a l p. loaded_meets v.memory to _ _ u v (ap (λ m. load size m a) h.memory ∙ load_outside size a v.memory has (ap is_private (small_wraps a l) ∙ p)) h refl)
 
   -- ---- stores
-  stored_beside : (a : ℕ) (bs : List Byte) (u v : Storage) → Beside u v → Beside (with_memory u (put_all a bs u.memory)) (with_memory v (put_all a bs v.memory))
+  stored_beside : (a : ℕ) (bs : List Byte) (u v : Storage) → DiffersByArea u v → DiffersByArea (with_memory u (put_all a bs u.memory)) (with_memory v (put_all a bs v.memory))
   stored_beside a bs u v h = record { regs = h.regs; flags = h.flags; temps = h.temps; memory = ap (put_all a bs) h.memory ∙ sym (λ i x. usual.store a bs v.memory x i); left = h.left; no_frame = h.no_frame; no_frame' = h.no_frame'; esp0 = h.esp0 }
 
   pub put_outside : (a : ℕ) (bs : List Byte) (m : Memory) → ((k : ℕ) → k < length bs → is_private (wrapped (a + k)) ≡ false) → SameArea m (put_all a bs m)
@@ -131,7 +131,7 @@ module _ (words : WordLaws) (memory : MemoryLaws) (usual : UsualLaws) (area : Pr
   take_few : (n : ℕ) (xs : List Byte) → length (take n xs) ≤ n
   take_few n xs = omega (arith, length-take n xs)
 
-  store_inside : (size a : ℕ) (x y : Word) (u v : Storage) → IsSize size → HasPrivateArea v.memory → Beside u v → is_private (wrapped a) ≡ true →
+  store_inside : (size a : ℕ) (x y : Word) (u v : Storage) → IsSize size → HasPrivateArea v.memory → DiffersByArea u v → is_private (wrapped a) ≡ true →
       Meets v.memory (and_then (store size x u.memory a) (λ m. Ok (with_memory u m))) (and_then (store size y v.memory 0) (λ m. Ok (with_memory v m)))
   store_inside size a x y u v sized has h p =
       let k = some_size size sized in
@@ -139,7 +139,7 @@ module _ (words : WordLaws) (memory : MemoryLaws) (usual : UsualLaws) (area : Pr
       let second : allows_all Store v.memory 0 size ≡ false = ap (allows_all Store v.memory 0) k.1 ∙ area.refuses_zero Store v.memory k.0 has in
       subst₂ (λ b c. Meets v.memory (and_then (cond b (Ok (put_all a (take size (word_list x)) u.memory)) (Err MemoryFault)) (λ m. Ok (with_memory u m))) (and_then (cond c (Ok (put_all 0 (take size (word_list y)) v.memory)) (Err MemoryFault)) (λ m. Ok (with_memory v m)))) (sym first) (sym second) refl
 
-  store_outside : (size a : ℕ) (x y : Word) (u v : Storage) → HasPrivateArea v.memory → Beside u v → x ≡ y → is_private (wrapped a) ≡ false →
+  store_outside : (size a : ℕ) (x y : Word) (u v : Storage) → HasPrivateArea v.memory → DiffersByArea u v → x ≡ y → is_private (wrapped a) ≡ false →
       Meets v.memory (and_then (store size x u.memory a) (λ m. Ok (with_memory u m))) (and_then (store size y v.memory a) (λ m. Ok (with_memory v m)))
   store_outside size a x y u v has h e p =
       subst (λ w. Meets v.memory (and_then (store size w u.memory a) (λ m. Ok (with_memory u m))) (and_then (store size y v.memory a) (λ m. Ok (with_memory v m)))) (sym e)
@@ -153,7 +153,7 @@ module _ (words : WordLaws) (memory : MemoryLaws) (usual : UsualLaws) (area : Pr
       }
       by false all = refl
 
-  pub store_meets : (size : ℕ) (w z x y : Word) (u v : Storage) → IsSize size → HasPrivateArea v.memory → Beside u v → StandsFor w z → x ≡ y →
+  pub store_meets : (size : ℕ) (w z x y : Word) (u v : Storage) → IsSize size → HasPrivateArea v.memory → DiffersByArea u v → StandsFor w z → x ≡ y →
       Meets v.memory (and_then (needed (known w)) (λ a. and_then (store size x u.memory a) (λ m. Ok (with_memory u m)))) (and_then (needed (known z)) (λ a. and_then (store size y v.memory a) (λ m. Ok (with_memory v m))))
   store_meets size w z x y u v sized has h s e =
       stands_meets v.memory w z _ _ s

@@ -24,7 +24,7 @@ use Rattle.private_memory.specs.PrivateArea.{without_private, HasPrivateArea}
 use Rattle.private_memory.specs.PrivateAreaLaws.{UsualLaws, PrivateAccessLaws}
 use Rattle.guards.specs.Temporaries.{IsVarBelow, IsOpBelow}
 use Rattle.guards.specs.Guarding.{literal, guarded_load, guarded_store, guarded_system, guarded}
-use Rattle.guards.specs.States.{Beside, IsKept}
+use Rattle.guards.specs.States.{DiffersByArea, IsLoweredStorage}
 use Rattle.guards.proofs.Addresses.{StandsFor, inside_of, tested_word, tested_stands, literal_stands}
 use Rattle.guards.proofs.Sides.{var_same, term_same, fresh_beside, SameArea, Meets, alone}
 use Rattle.guards.proofs.Buffers.{AreOutside, StoresOutside, call_same, call_stores}
@@ -46,10 +46,10 @@ put_above n k w words l = cond-false (k == n) w (words k) (ne_eqb k n (λ e. abs
 tested_below : (w : Word) (temps : ℕ → Word) (k : ℕ) → k < 1399997 → tested_temps w temps k ≡ temps k
 tested_below w temps k l = put_above 1399998 k (inside_of w) (put_word 1399997 (difference_of w (word_of 0x60000000)) temps) (omega arith) ∙ put_above 1399997 k (difference_of w (word_of 0x60000000)) temps l
 
-pub after_beside : (w : Word) (u v : Storage) → Beside u v → Beside u (after_test w v)
+pub after_beside : (w : Word) (u v : Storage) → DiffersByArea u v → DiffersByArea u (after_test w v)
 after_beside w u v h = fresh_beside u v (tested_temps w v.temps) h (tested_below w v.temps)
 
-pub address_beside : (w z : Word) (u v : Storage) → Beside u v → Beside u (with_address w z v)
+pub address_beside : (w z : Word) (u v : Storage) → DiffersByArea u v → DiffersByArea u (with_address w z v)
 address_beside w z u v h = fresh_beside u v (put_word 1399999 z (tested_temps w v.temps)) h (λ k l. put_above 1399999 k z (tested_temps w v.temps) (omega arith) ∙ tested_below w v.temps k l)
 
 -- the address is the same behind it
@@ -128,7 +128,7 @@ call_below : (w : Word) (temps : ℕ → Word) (k : ℕ) → k < 1399997 → tes
 call_below w temps k l = tested_below w (put_word 1399999 w temps) k l ∙ put_above 1399999 k w temps (omega arith)
 
 module _ (words : WordLaws) (memory : MemoryLaws) (usual : UsualLaws) (area : PrivateAccessLaws) (turn : ℕ) where
-  calls_same : (u v : Storage) → Beside u v → HasPrivateArea v.memory → StandsFor (v.regs 1) (tested_word (v.regs 1)) → call_in u ≡ call_in (at_call v)
+  calls_same : (u v : Storage) → DiffersByArea u v → HasPrivateArea v.memory → StandsFor (v.regs 1) (tested_word (v.regs 1)) → call_in u ≡ call_in (at_call v)
   calls_same u v h has stands =
       (λ i. system_call (record { number = h.regs i 0; fd = h.regs i 3; at = h.regs i 1; count = h.regs i 2 }) (h.memory i) (h.left i))
       ∙ call_same memory area v.memory has (v.regs 0) (v.regs 3) (v.regs 1) (tested_word (v.regs 1)) (v.regs 2) v.left stands
@@ -144,7 +144,7 @@ module _ (words : WordLaws) (memory : MemoryLaws) (usual : UsualLaws) (area : Pr
       let rest = stored_area ss (put_all s.at s.bytes m) out.1 in
       record { places = λ a p. rest.places a p ∙ first.places a p }
 
-  called_meets : (c : Called) (u v : Storage) → Beside u v → StoresOutside c → Meets v.memory (called c u) (and_then (called c (at_call v)) (performs turn ecx_back))
+  called_meets : (c : Called) (u v : Storage) → DiffersByArea u v → StoresOutside c → Meets v.memory (called c u) (and_then (called c (at_call v)) (performs turn ecx_back))
   unfolding performs perform
   called_meets (Ends e) u v h out = refl
   called_meets (Gives labels result stores left) u v h out = record {
@@ -164,7 +164,7 @@ module _ (words : WordLaws) (memory : MemoryLaws) (usual : UsualLaws) (area : Pr
   call_outside : (v : Storage) → HasPrivateArea v.memory → StandsFor (v.regs 1) (tested_word (v.regs 1)) → StoresOutside (call_in (at_call v))
   call_outside v has stands = call_stores memory area v.memory has (v.regs 0) (v.regs 3) (tested_word (v.regs 1)) (v.regs 2) v.left stands.plain
 
-  system_meets : (u v : Storage) → Beside u v → HasPrivateArea v.memory → StandsFor (v.regs 1) (tested_word (v.regs 1)) → Meets v.memory (perform turn op.System u) (performs turn guarded_system v)
+  system_meets : (u v : Storage) → DiffersByArea u v → HasPrivateArea v.memory → StandsFor (v.regs 1) (tested_word (v.regs 1)) → Meets v.memory (perform turn op.System u) (performs turn guarded_system v)
   unfolding perform
   system_meets u v h has stands =
       subst (Meets v.memory (called (call_in u) u)) (sym (system_runs turn v))
@@ -176,37 +176,37 @@ module _ (words : WordLaws) (memory : MemoryLaws) (usual : UsualLaws) (area : Pr
   called_shows (Ends e) u v = refl
   called_shows (Gives labels result stores left) u v = refl
 
-  system_shown : (u v : Storage) → Beside u v → HasPrivateArea v.memory → StandsFor (v.regs 1) (tested_word (v.regs 1)) → shown_with (perform turn op.System u) (labels_of (call_in u)) (λ w. []) ≡ shown_by_all turn guarded_system v
+  system_shown : (u v : Storage) → DiffersByArea u v → HasPrivateArea v.memory → StandsFor (v.regs 1) (tested_word (v.regs 1)) → shown_with (perform turn op.System u) (labels_of (call_in u)) (λ w. []) ≡ shown_by_all turn guarded_system v
   unfolding perform
   system_shown u v h has stands =
       ap (λ c. shown_with (called c u) (labels_of c) (λ w. [])) (calls_same u v h has stands)
       ∙ (called_shows (call_in (at_call v)) u (at_call v) ∙ sym (system_shows turn v))
 
   -- ---- each operation
-  stands_at : (x : Var) (u v : Storage) → Beside u v → IsKept v → IsVarBelow 1399997 x → StandsFor (var_in x u) (address_of x v)
+  stands_at : (x : Var) (u v : Storage) → DiffersByArea u v → IsLoweredStorage v → IsVarBelow 1399997 x → StandsFor (var_in x u) (address_of x v)
   stands_at x u v h kept b = subst (λ w. StandsFor w (address_of x v)) (sym (var_same x u v h b)) (address_stands words x v kept.no_frame kept.formed b)
 
-  stands_ecx : (v : Storage) → IsKept v → StandsFor (v.regs 1) (tested_word (v.regs 1))
+  stands_ecx : (v : Storage) → IsLoweredStorage v → StandsFor (v.regs 1) (tested_word (v.regs 1))
   stands_ecx v kept = tested_stands words (v.regs 1) (var_formed (var.Reg 1) v kept.no_frame kept.formed)
 
-  load_at : (to : Var) (size : ℕ) (x : Var) (u v : Storage) → IsOp 0 (op.Load to size (term.Var x)) → IsOpBelow 1399997 (op.Load to size (term.Var x)) → Beside u v → IsKept v → Meets v.memory (perform turn (op.Load to size (term.Var x)) u) (performs turn (guarded_load to size (term.Var x)) v)
+  load_at : (to : Var) (size : ℕ) (x : Var) (u v : Storage) → IsOp 0 (op.Load to size (term.Var x)) → IsOpBelow 1399997 (op.Load to size (term.Var x)) → DiffersByArea u v → IsLoweredStorage v → Meets v.memory (perform turn (op.Load to size (term.Var x)) u) (performs turn (guarded_load to size (term.Var x)) v)
   unfolding perform
   load_at to size x u v form b h kept =
       subst (Meets v.memory (perform turn (op.Load to size (term.Var x)) u)) (sym (load_runs turn to size x v))
       (alone turn v.memory _ (perform turn (op.Load to size (term.Var (var.Temp 1399999))) (at_address x v)) (load_meets words memory usual area turn to size (var_in x u) (address_of x v) u (at_address x v) form.1 kept.area (address_beside (var_in x v) (address_of x v) u v h) (stands_at x u v h kept b.1)))
 
-  load_literal : (to : Var) (size n : ℕ) (u v : Storage) → IsOp 0 (op.Load to size (term.Word n)) → Beside u v → IsKept v → Meets v.memory (perform turn (op.Load to size (term.Word n)) u) (performs turn (op.Load to size (literal n) ∷ []) v)
+  load_literal : (to : Var) (size n : ℕ) (u v : Storage) → IsOp 0 (op.Load to size (term.Word n)) → DiffersByArea u v → IsLoweredStorage v → Meets v.memory (perform turn (op.Load to size (term.Word n)) u) (performs turn (op.Load to size (literal n) ∷ []) v)
   unfolding perform performs
   load_literal to size n u v form h kept = alone turn v.memory _ (perform turn (op.Load to size (literal n)) v) (load_meets words memory usual area turn to size (word_of n) (term_in (literal n) v) u v form.1 kept.area h (literal_stands n v))
 
-  store_at : (size : ℕ) (x : Var) (from : Term) (u v : Storage) → IsOp 0 (op.Store size (term.Var x) from) → IsOpBelow 1399997 (op.Store size (term.Var x) from) → Beside u v → IsKept v → Meets v.memory (perform turn (op.Store size (term.Var x) from) u) (performs turn (guarded_store size (term.Var x) from) v)
+  store_at : (size : ℕ) (x : Var) (from : Term) (u v : Storage) → IsOp 0 (op.Store size (term.Var x) from) → IsOpBelow 1399997 (op.Store size (term.Var x) from) → DiffersByArea u v → IsLoweredStorage v → Meets v.memory (perform turn (op.Store size (term.Var x) from) u) (performs turn (guarded_store size (term.Var x) from) v)
   unfolding perform
   store_at size x from u v form b h kept =
       let behind = address_beside (var_in x v) (address_of x v) u v h in
       subst (Meets v.memory (perform turn (op.Store size (term.Var x) from) u)) (sym (store_runs turn size x from v))
       (alone turn v.memory _ (perform turn (op.Store size (term.Var (var.Temp 1399999)) from) (at_address x v)) (store_meets words memory usual area turn size (var_in x u) (address_of x v) (term_in from u) (term_in from (at_address x v)) u (at_address x v) form.0 kept.area behind (stands_at x u v h kept b.0) (term_same from u (at_address x v) behind b.1)))
 
-  store_literal : (size n : ℕ) (from : Term) (u v : Storage) → IsOp 0 (op.Store size (term.Word n) from) → IsOpBelow 1399997 (op.Store size (term.Word n) from) → Beside u v → IsKept v → Meets v.memory (perform turn (op.Store size (term.Word n) from) u) (performs turn (op.Store size (literal n) from ∷ []) v)
+  store_literal : (size n : ℕ) (from : Term) (u v : Storage) → IsOp 0 (op.Store size (term.Word n) from) → IsOpBelow 1399997 (op.Store size (term.Word n) from) → DiffersByArea u v → IsLoweredStorage v → Meets v.memory (perform turn (op.Store size (term.Word n) from) u) (performs turn (op.Store size (literal n) from ∷ []) v)
   unfolding perform performs
   store_literal size n from u v form b h kept = alone turn v.memory _ (perform turn (op.Store size (literal n) from) v) (store_meets words memory usual area turn size (word_of n) (term_in (literal n) v) (term_in from u) (term_in from v) u v form.0 kept.area h (literal_stands n v) (term_same from u v h b.1))
 
@@ -214,11 +214,11 @@ module _ (words : WordLaws) (memory : MemoryLaws) (usual : UsualLaws) (area : Pr
   unfolding shown_by_all
   one_shows o v none = ap (λ ls. shown_with (perform turn o v) ls (shown_by_all turn [])) none ∙ shows_none turn (perform turn o v)
 
-  single : (o : Op) (u v : Storage) → IsPlain o → IsOpBelow 1399997 o → Beside u v → Meets v.memory (perform turn o u) (performs turn (o ∷ []) v)
+  single : (o : Op) (u v : Storage) → IsPlain o → IsOpBelow 1399997 o → DiffersByArea u v → Meets v.memory (perform turn o u) (performs turn (o ∷ []) v)
   unfolding performs
   single o u v plain b h = alone turn v.memory (perform turn o u) (perform turn o v) (plain_meets turn o u v plain b h)
 
-  pub op_meets : (o : Op) (u v : Storage) → IsOp 0 o → IsFrameless o → IsOpBelow 1399997 o → Beside u v → IsKept v → Meets v.memory (perform turn o u) (performs turn (guarded o) v)
+  pub op_meets : (o : Op) (u v : Storage) → IsOp 0 o → IsFrameless o → IsOpBelow 1399997 o → DiffersByArea u v → IsLoweredStorage v → Meets v.memory (perform turn o u) (performs turn (guarded o) v)
   op_meets (op.Load to size (term.Var x)) u v form frameless b h kept = load_at to size x u v form b h kept
   op_meets (op.Load to size (term.Word n)) u v form frameless b h kept = load_literal to size n u v form h kept
   op_meets (op.Store size (term.Var x) from) u v form frameless b h kept = store_at size x from u v form b h kept
@@ -239,7 +239,7 @@ module _ (words : WordLaws) (memory : MemoryLaws) (usual : UsualLaws) (area : Pr
   shows_one : (o : Op) (u v : Storage) → shown_by o v ≡ [] → shown_with (perform turn o u) [] (λ w. []) ≡ shown_by_all turn (o ∷ []) v
   shows_one o u v none = quiet (perform turn o u) (λ w. []) (λ w. refl) ∙ sym (one_shows o v none)
 
-  pub op_shown : (o : Op) (u v : Storage) → IsFrameless o → Beside u v → IsKept v → shown_with (perform turn o u) (shown_by o u) (λ w. []) ≡ shown_by_all turn (guarded o) v
+  pub op_shown : (o : Op) (u v : Storage) → IsFrameless o → DiffersByArea u v → IsLoweredStorage v → shown_with (perform turn o u) (shown_by o u) (λ w. []) ≡ shown_by_all turn (guarded o) v
   op_shown (op.Load to size (term.Var x)) u v frameless h kept = quiet (perform turn (op.Load to size (term.Var x)) u) (λ w. []) (λ w. refl) ∙ sym (load_shows turn to size x v)
   op_shown (op.Load to size (term.Word n)) u v frameless h kept = quiet (perform turn (op.Load to size (term.Word n)) u) (λ w. []) (λ w. refl) ∙ sym (one_shows (op.Load to size (literal n)) v refl)
   op_shown (op.Store size (term.Var x) from) u v frameless h kept = quiet (perform turn (op.Store size (term.Var x) from) u) (λ w. []) (λ w. refl) ∙ sym (store_shows turn size x from v)

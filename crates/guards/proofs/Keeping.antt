@@ -20,7 +20,7 @@ use Rattle.flag_ir.specs.LessSpecified.{ResultLessSpecified}
 use Rattle.flag_ir.specs.Form.{IsFrameless}
 use Rattle.private_memory.specs.PrivateArea.{HasPrivateArea}
 use Rattle.private_memory.specs.PrivateAreaLaws.{PrivateAccessLaws}
-use Rattle.guards.specs.States.{IsKept}
+use Rattle.guards.specs.States.{IsLoweredStorage}
 
 -- ---- lists
 pub all_first : {X : Type 0} (P : X → Type 0) (x : X) (xs : List X) → All P (x ∷ xs) → P x
@@ -88,22 +88,22 @@ module _ (area : PrivateAccessLaws) where
 
   -- ---- all of it
   module _ (units : UnitLaws) where
-    kept_by : (r : Result Storage End) (w : Storage) → r ≡ Ok w → StaysResult r → ResultLessSpecified r r → IsKept w
-    kept_by (Ok v) w e stays formed = let same : v ≡ w = cc in subst IsKept same (record { no_frame = stays.no_frame; area = stays.area; formed = formed })
+    kept_by : (r : Result Storage End) (w : Storage) → r ≡ Ok w → StaysResult r → ResultLessSpecified r r → IsLoweredStorage w
+    kept_by (Ok v) w e stays formed = let same : v ≡ w = cc in subst IsLoweredStorage same (record { no_frame = stays.no_frame; area = stays.area; formed = formed })
     kept_by (Err f) w e stays formed = absurd cc
 
-    pub op_keeps : (turn : ℕ) (o : Op) (v w : Storage) → IsFrameless o → IsKept v → perform turn o v ≡ Ok w → IsKept w
+    pub op_keeps : (turn : ℕ) (o : Op) (v w : Storage) → IsFrameless o → IsLoweredStorage v → perform turn o v ≡ Ok w → IsLoweredStorage w
     op_keeps turn o v w f h e = kept_by (perform turn o v) w e (op_stays turn o v f (record { no_frame = h.no_frame; area = h.area })) (units.monotone.perform_less turn o v v h.formed)
 
-    pub ops_keep : (turn : ℕ) (ops : List Op) (v w : Storage) → All IsFrameless ops → IsKept v → performs turn ops v ≡ Ok w → IsKept w
+    pub ops_keep : (turn : ℕ) (ops : List Op) (v w : Storage) → All IsFrameless ops → IsLoweredStorage v → performs turn ops v ≡ Ok w → IsLoweredStorage w
     unfolding performs
-    ops_keep turn [] v w f h e = let same : v ≡ w = cc in subst IsKept same h
+    ops_keep turn [] v w f h e = let same : v ≡ w = cc in subst IsLoweredStorage same h
     ops_keep turn (o ∷ os) v w f h e = behind (perform turn o v) refl e (λ x g k. ops_keep turn os x w (all_rest IsFrameless o os f) (op_keeps turn o v x (all_first IsFrameless o os f) h g) k)
       where
-        behind : (r : Result Storage End) → perform turn o v ≡ r → and_then r (performs turn os) ≡ Ok w → ((x : Storage) → perform turn o v ≡ Ok x → performs turn os x ≡ Ok w → IsKept w) → IsKept w
+        behind : (r : Result Storage End) → perform turn o v ≡ r → and_then r (performs turn os) ≡ Ok w → ((x : Storage) → perform turn o v ≡ Ok x → performs turn os x ≡ Ok w → IsLoweredStorage w) → IsLoweredStorage w
         behind (Ok x) g k next = next x g k
         behind (Err f) g k next = absurd cc
 
 -- a block begins with unspecified temporaries
-pub fresh_kept : (v : Storage) → IsKept v → IsKept (fresh v)
+pub fresh_kept : (v : Storage) → IsLoweredStorage v → IsLoweredStorage (fresh v)
 fresh_kept v h = record { no_frame = h.no_frame; area = h.area; formed = record { regs = h.formed.regs; flags = h.formed.flags; temps = λ k. record { b0 = tt; b1 = tt; b2 = tt; b3 = tt }; memory = h.formed.memory; left = h.formed.left; environment = h.formed.environment; frames = h.formed.frames; esp0 = h.formed.esp0 } }

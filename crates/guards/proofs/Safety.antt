@@ -34,7 +34,7 @@ use Rattle.private_memory.specs.PrivateArea.{is_private, AreElsewhere, IsApartAc
 use Rattle.guards.specs.Temporaries.{IsVarBelow, IsOpBelow}
 use Rattle.guards.specs.Guarding.{tested, literal, guarded_load, guarded_store, guarded_system, guarded, guarded_ops, is_stop, has_loose_stop, turn_store, turn_stores, guarded_unit}
 use Rattle.guards.specs.Lowering.{KeepsApart}
-use Rattle.guards.specs.States.{IsKept, point_of, AreSafe, IsSafePoint, IsSafe}
+use Rattle.guards.specs.States.{IsLoweredStorage, point_of, AreSafe, IsSafePoint, IsSafe}
 use Rattle.guards.proofs.Addresses.{tested_word, tested_stands, literal_stands}
 use Rattle.guards.proofs.Keeping.{all_first, all_rest, op_keeps, ops_keep, fresh_kept}
 use Rattle.guards.proofs.GuardedRuns.{var_formed, address_of, at_address, at_call, after_test, address_stands, ecx_back}
@@ -103,9 +103,9 @@ module _ (laws : LawsBelow) where
         ok_is z w g = cc
 
     abbrev Behind : List Op → Type 0
-    Behind rest = (w : Storage) → IsKept w → AreSafe t rest w
+    Behind rest = (w : Storage) → IsLoweredStorage w → AreSafe t rest w
 
-    kept_safe : (o : Op) (rest : List Op) (y : Storage) → IsFrameless o → IsKept y → All (IsApartAccess y.memory) (op_accesses o y) → Behind rest → AreSafe t (o ∷ rest) y
+    kept_safe : (o : Op) (rest : List Op) (y : Storage) → IsFrameless o → IsLoweredStorage y → All (IsApartAccess y.memory) (op_accesses o y) → Behind rest → AreSafe t (o ∷ rest) y
     kept_safe o rest y f kept apart behind = (apart, λ w e. behind w (op_keeps laws.area laws.units t o y w f kept e))
 
     tested_runs : (x : Var) (y : Storage) → performs t (tested (var.Temp 1399999) (term.Var x)) y ≡ Ok (at_address x y)
@@ -116,10 +116,10 @@ module _ (laws : LawsBelow) where
     unfolding performs perform
     call_runs y = refl
 
-    address_kept : (x : Var) (y : Storage) → IsKept y → IsKept (at_address x y)
+    address_kept : (x : Var) (y : Storage) → IsLoweredStorage y → IsLoweredStorage (at_address x y)
     address_kept x y kept = ops_keep laws.area laws.units t (tested (var.Temp 1399999) (term.Var x)) y (at_address x y) (All-from_recursion IsFrameless (tested (var.Temp 1399999) (term.Var x)) (tt, (tt, (tt, tt)))) kept (tested_runs x y)
 
-    call_kept : (y : Storage) → IsKept y → IsKept (at_call y)
+    call_kept : (y : Storage) → IsLoweredStorage y → IsLoweredStorage (at_call y)
     call_kept y kept = ops_keep laws.area laws.units t (op.Set (var.Temp 1399999) (term.Var (var.Reg 1)) ∷ tested (var.Reg 1) (term.Var (var.Reg 1))) y (at_call y) (All-from_recursion IsFrameless (op.Set (var.Temp 1399999) (term.Var (var.Reg 1)) ∷ tested (var.Reg 1) (term.Var (var.Reg 1))) (tt, (tt, (tt, (tt, tt))))) kept (call_runs y)
 
     -- the three operations before an access
@@ -130,12 +130,12 @@ module _ (laws : LawsBelow) where
         (step_safe inside_op (pick_op (var.Temp 1399999) (term.Var x) ∷ os) (with_difference (var_in x y) y) (after_test (var_in x y) y) refl refl
         (step_safe (pick_op (var.Temp 1399999) (term.Var x)) os (after_test (var_in x y) y) (at_address x y) refl refl h))
 
-    load_safe : (to : Var) (size : ℕ) (x : Var) (rest : List Op) (y : Storage) → IsVarBelow 1399997 x → IsKept y → Behind rest → AreSafe t (guarded_load to size (term.Var x) ++ rest) y
+    load_safe : (to : Var) (size : ℕ) (x : Var) (rest : List Op) (y : Storage) → IsVarBelow 1399997 x → IsLoweredStorage y → Behind rest → AreSafe t (guarded_load to size (term.Var x) ++ rest) y
     load_safe to size x rest y b kept behind =
         tested_safe x (op.Load to size (term.Var (var.Temp 1399999)) ∷ rest) y
         (kept_safe (op.Load to size (term.Var (var.Temp 1399999))) rest (at_address x y) tt (address_kept x y kept) (accessed_apart Load size y.memory (known (address_of x y)) kept.area (address_stands laws.words x y kept.no_frame kept.formed b).plain) behind)
 
-    store_safe : (size : ℕ) (x : Var) (from : Term) (rest : List Op) (y : Storage) → IsVarBelow 1399997 x → IsKept y → Behind rest → AreSafe t (guarded_store size (term.Var x) from ++ rest) y
+    store_safe : (size : ℕ) (x : Var) (from : Term) (rest : List Op) (y : Storage) → IsVarBelow 1399997 x → IsLoweredStorage y → Behind rest → AreSafe t (guarded_store size (term.Var x) from ++ rest) y
     store_safe size x from rest y b kept behind =
         tested_safe x (op.Store size (term.Var (var.Temp 1399999)) from ∷ rest) y
         (kept_safe (op.Store size (term.Var (var.Temp 1399999)) from) rest (at_address x y) tt (address_kept x y kept) (accessed_apart Store size y.memory (known (address_of x y)) kept.area (address_stands laws.words x y kept.no_frame kept.formed b).plain) behind)
@@ -143,7 +143,7 @@ module _ (laws : LawsBelow) where
     abbrev saved : Storage → Storage
     saved y = put_var (var.Temp 1399999) (y.regs 1) y
 
-    system_safe : (rest : List Op) (y : Storage) → IsKept y → Behind rest → AreSafe t (guarded_system ++ rest) y
+    system_safe : (rest : List Op) (y : Storage) → IsLoweredStorage y → Behind rest → AreSafe t (guarded_system ++ rest) y
     unfolding perform
     system_safe rest y kept behind =
         step_safe (op.Set (var.Temp 1399999) ecx) (difference_op ecx ∷ inside_op ∷ pick_op (var.Reg 1) ecx ∷ op.System ∷ ecx_back ++ rest) y (saved y) refl refl
@@ -154,10 +154,10 @@ module _ (laws : LawsBelow) where
         (buffer_apart y.memory (known (y.regs 0)) (known (y.regs 3)) (known (tested_word (y.regs 1))) (known (y.regs 2)) kept.area (tested_stands laws.words (y.regs 1) (var_formed (var.Reg 1) y kept.no_frame kept.formed)).plain)
         (λ w k. kept_safe (op.Set (var.Reg 1) (term.Var (var.Temp 1399999))) rest w tt k (none_apart w.memory) behind)))))
 
-    quiet_safe : (o : Op) (rest : List Op) (y : Storage) → IsFrameless o → op_accesses o y ≡ [] → IsKept y → Behind rest → AreSafe t (o ∷ rest) y
+    quiet_safe : (o : Op) (rest : List Op) (y : Storage) → IsFrameless o → op_accesses o y ≡ [] → IsLoweredStorage y → Behind rest → AreSafe t (o ∷ rest) y
     quiet_safe o rest y f none kept behind = kept_safe o rest y f kept (subst (All (IsApartAccess y.memory)) (sym none) (none_apart y.memory)) behind
 
-    op_safe : (o : Op) (rest : List Op) (y : Storage) → IsFrameless o → IsOpBelow 1399997 o → IsKept y → Behind rest → AreSafe t (guarded o ++ rest) y
+    op_safe : (o : Op) (rest : List Op) (y : Storage) → IsFrameless o → IsOpBelow 1399997 o → IsLoweredStorage y → Behind rest → AreSafe t (guarded o ++ rest) y
     op_safe (op.Load to size (term.Var x)) rest y f b kept behind = load_safe to size x rest y b.1 kept behind
     op_safe (op.Load to size (term.Word n)) rest y f b kept behind = kept_safe (op.Load to size (literal n)) rest y tt kept (accessed_apart Load size y.memory (known (term_in (literal n) y)) kept.area (literal_stands n y).plain) behind
     op_safe (op.Store size (term.Var x) from) rest y f b kept behind = store_safe size x from rest y b.0 kept behind
@@ -175,7 +175,7 @@ module _ (laws : LawsBelow) where
     op_safe (op.Put size offset from) rest y f b kept behind = absurd f
     op_safe op.NearSystem rest y f b kept behind = absurd f
 
-    ops_safe : (ops : List Op) (y : Storage) → AreOps ops → IsKept y → AreSafe t (guarded_ops ops) y
+    ops_safe : (ops : List Op) (y : Storage) → AreOps ops → IsLoweredStorage y → AreSafe t (guarded_ops ops) y
     ops_safe [] y asked kept = tt
     ops_safe (o ∷ os) y asked kept = op_safe o (guarded_ops os) y (all_first IsFrameless o os asked.frameless) (all_first (IsOpBelow 1399997) o os asked.below) kept (λ w k. ops_safe os w (rest_ops o os asked) k)
 
@@ -183,7 +183,7 @@ module _ (laws : LawsBelow) where
     unfolding known word_of
     store_accesses at y = turn_apart Store y.memory
 
-    block_safe : (loose : Bool) (at : ℕ) (e : Exit) (ops : List Op) (y : Storage) → AreOps ops → IsKept y → AreSafe t (turn_stores loose at e ++ guarded_ops ops) y
+    block_safe : (loose : Bool) (at : ℕ) (e : Exit) (ops : List Op) (y : Storage) → AreOps ops → IsLoweredStorage y → AreSafe t (turn_stores loose at e ++ guarded_ops ops) y
     block_safe loose at e ops y asked kept = by (not (at == 0) && (loose || is_stop e))
       where
         by : (b : Bool) → AreSafe t (cond b (turn_store at ∷ []) [] ++ guarded_ops ops) y
@@ -195,7 +195,7 @@ module _ (laws : LawsBelow) where
     abbrev v : CodeUnit
     v = guarded_unit u
 
-    made_safe : (t k : ℕ) (c : Block) (y : Storage) → slice_get v.whole k ≡ Some c → IsKept y → AreSafe t c.ops (fresh y)
+    made_safe : (t k : ℕ) (c : Block) (y : Storage) → slice_get v.whole k ≡ Some c → IsLoweredStorage y → AreSafe t c.ops (fresh y)
     made_safe t k c y e kept =
         let m = made_at (has_loose_stop u.whole) u.whole k c e in
         subst (λ (d : Block). AreSafe t d.ops (fresh y)) m.makes (block_safe t (has_loose_stop u.whole) m.of.at m.of.exit m.of.ops (fresh y) (ops_of laws u asked k m.of m.there) (fresh_kept y kept))
@@ -219,7 +219,7 @@ module _ (laws : LawsBelow) where
     jumps_load None y = refl
     jumps_load (Some a) y = no_procedure (procedure_at a []) y (procedure_none a)
 
-    exit_apart : (e : Exit) (y : Storage) → IsKept y → All (IsApartAccess y.memory) (exit_loads v e y)
+    exit_apart : (e : Exit) (y : Storage) → IsLoweredStorage y → All (IsApartAccess y.memory) (exit_loads v e y)
     exit_apart (exit.Go n) y kept = none_apart y.memory
     exit_apart (exit.Branch test m n) y kept = none_apart y.memory
     exit_apart (exit.Jump to) y kept = subst (All (IsApartAccess y.memory)) (sym (jumps_load (known (term_in to y)) y)) (none_apart y.memory)
@@ -228,15 +228,15 @@ module _ (laws : LawsBelow) where
     exit_apart exit.Fault y kept = none_apart y.memory
     exit_apart exit.Stop y kept = turn_apart Load y.memory
 
-    within_apart : (t : ℕ) (ops : List Op) (e : Exit) (y : Storage) → IsKept y → AreSafe t ops y → All (IsApartAccess y.memory) (within_accesses v ops e y)
+    within_apart : (t : ℕ) (ops : List Op) (e : Exit) (y : Storage) → IsLoweredStorage y → AreSafe t ops y → All (IsApartAccess y.memory) (within_accesses v ops e y)
     within_apart t [] e y kept safe = exit_apart e y kept
     within_apart t (o ∷ ops) e y kept safe = safe.0
 
-    before_apart : (k : ℕ) (y : Storage) → IsKept y → (o : Option Block) → slice_get (blocks_of v y.frames) k ≡ o → All (IsApartAccess y.memory) (begun_accesses v o y)
+    before_apart : (k : ℕ) (y : Storage) → IsLoweredStorage y → (o : Option Block) → slice_get (blocks_of v y.frames) k ≡ o → All (IsApartAccess y.memory) (begun_accesses v o y)
     before_apart k y kept None e = none_apart y.memory
     before_apart k y kept (Some c) e = within_apart 0 c.ops c.exit (fresh y) (fresh_kept y kept) (made_safe 0 k c y (whole_there y k (Some c) kept.no_frame e) kept)
 
-    point_apart : (t : ℕ) (p : Point) (y : Storage) → IsKept y → IsSafePoint t p y → All (IsApartAccess y.memory) (point_accesses v p y)
+    point_apart : (t : ℕ) (p : Point) (y : Storage) → IsLoweredStorage y → IsSafePoint t p y → All (IsApartAccess y.memory) (point_accesses v p y)
     point_apart t (Before k) y kept safe = before_apart k y kept (slice_get (blocks_of v y.frames) k) refl
     point_apart t (Within ops e) y kept safe = within_apart t ops e y kept safe.0
     point_apart t (Over e) y kept safe = none_apart y.memory
@@ -267,7 +267,7 @@ module _ (laws : LawsBelow) where
     stop_same y None = tt
     stop_same y (Some a) = tt
 
-    leave_same : (t : ℕ) (e : Exit) (y : Storage) → IsFramelessExit e → IsKept y → IsSameOnward y (leave v t e y)
+    leave_same : (t : ℕ) (e : Exit) (y : Storage) → IsFramelessExit e → IsLoweredStorage y → IsSameOnward y (leave v t e y)
     unfolding leave
     leave_same t (exit.Go n) y f kept = before_same y (index_of_number n (blocks_of v y.frames)) Outside
     leave_same t (exit.Branch test m n) y f kept = needed_same y (known (term_in test y)) _ (λ a. before_same y (index_of_number (cond (a == 0) n m) (blocks_of v y.frames)) Outside)
@@ -277,15 +277,15 @@ module _ (laws : LawsBelow) where
     leave_same t exit.Fault y f kept = tt
     leave_same t exit.Stop y f kept = stop_same y _
 
-    left_safe : (t : ℕ) (o : Onward) (y : Storage) → IsKept y → IsSameOnward y o → ToSafe (left_for t o)
-    left_safe t (Ok p) y kept same = holds (state_at t (Before p.0) p.1) (record { kept = subst IsKept (sym same) kept; point = tt })
+    left_safe : (t : ℕ) (o : Onward) (y : Storage) → IsLoweredStorage y → IsSameOnward y o → ToSafe (left_for t o)
+    left_safe t (Ok p) y kept same = holds (state_at t (Before p.0) p.1) (record { kept = subst IsLoweredStorage (sym same) kept; point = tt })
     left_safe t (Err e) y kept same = tt
 
-    performed_safe : (t : ℕ) (o : Op) (ops : List Op) (e : Exit) (y : Storage) (ls : List Label) → IsKept y → AreSafe t (o ∷ ops) y → All IsFrameless (o ∷ ops) → IsFramelessExit e → (r : Result Storage End) → perform t o y ≡ r → ToSafe (performed t ls r ops e)
+    performed_safe : (t : ℕ) (o : Op) (ops : List Op) (e : Exit) (y : Storage) (ls : List Label) → IsLoweredStorage y → AreSafe t (o ∷ ops) y → All IsFrameless (o ∷ ops) → IsFramelessExit e → (r : Result Storage End) → perform t o y ≡ r → ToSafe (performed t ls r ops e)
     performed_safe t o ops e y ls kept safe f g (Ok w) is = holds (state_at t (Within ops e) w) (record { kept = op_keeps laws.area laws.units t o y w (all_first IsFrameless o ops f) kept is; point = (safe.1 w is, all_rest IsFrameless o ops f, g) })
     performed_safe t o ops e y ls kept safe f g (Err d) is = tt
 
-    within_safe : (t : ℕ) (ops : List Op) (e : Exit) (y : Storage) → IsKept y → AreSafe t ops y → All IsFrameless ops → IsFramelessExit e → ToSafe (within v t ops e y)
+    within_safe : (t : ℕ) (ops : List Op) (e : Exit) (y : Storage) → IsLoweredStorage y → AreSafe t ops y → All IsFrameless ops → IsFramelessExit e → ToSafe (within v t ops e y)
     within_safe t [] e y kept safe f g = left_safe t (leave v t e y) y kept (leave_same t e y g kept)
     within_safe t (o ∷ ops) e y kept safe f g = performed_safe t o ops e y (shown_by o y) kept safe f g (perform t o y) refl
 
@@ -294,7 +294,7 @@ module _ (laws : LawsBelow) where
     marked_safe a (Go ls s) h = h
     marked_safe a (Halt ls e) h = h
 
-    block_goes_safe : (t k : ℕ) (y : Storage) (c : Block) → IsKept y → slice_get (blocks_of v y.frames) k ≡ Some c → ToSafe (next v (state_at t (Before k) y))
+    block_goes_safe : (t k : ℕ) (y : Storage) (c : Block) → IsLoweredStorage y → slice_get (blocks_of v y.frames) k ≡ Some c → ToSafe (next v (state_at t (Before k) y))
     block_goes_safe t k y c kept there = by (c.at == 0) refl
       where
         f : IsFramelessBlock c
@@ -307,11 +307,11 @@ module _ (laws : LawsBelow) where
         by true e = subst ToSafe (sym (laws.units.moves.goes_on v t k c y there (eqb-true c.at 0 e))) (inner t)
         by false e = subst ToSafe (sym (laws.units.moves.begins v t k c y there (λ none. let both : true ≡ false = sym (eq-eqb c.at 0 none) ∙ e in absurd cc))) (marked_safe c.at (within v c.at c.ops c.exit (fresh y)) (inner c.at))
 
-    index_safe : (t k : ℕ) (y : Storage) → IsKept y → (o : Option Block) → slice_get (blocks_of v y.frames) k ≡ o → ToSafe (next v (state_at t (Before k) y))
+    index_safe : (t k : ℕ) (y : Storage) → IsLoweredStorage y → (o : Option Block) → slice_get (blocks_of v y.frames) k ≡ o → ToSafe (next v (state_at t (Before k) y))
     index_safe t k y kept None e = subst ToSafe (sym (laws.units.moves.no_block v t k y e)) tt
     index_safe t k y kept (Some c) e = block_goes_safe t k y c kept e
 
-    point_safe : (t : ℕ) (p : Point) (y : Storage) → IsKept y → IsSafePoint t p y → ToSafe (next v (state_at t p y))
+    point_safe : (t : ℕ) (p : Point) (y : Storage) → IsLoweredStorage y → IsSafePoint t p y → ToSafe (next v (state_at t p y))
     point_safe t (Before k) y kept safe = index_safe t k y kept (slice_get (blocks_of v y.frames) k) refl
     point_safe t (Within ops e) y kept safe = subst ToSafe (sym (laws.units.moves.by_within v t ops e y)) (within_safe t ops e y kept safe.0 safe.1 safe.2)
     point_safe t (Over e) y kept safe = subst ToSafe (sym (laws.units.moves.over v t e y)) tt

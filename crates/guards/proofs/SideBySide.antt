@@ -29,7 +29,7 @@ use Rattle.flag_ir.specs.Shape.{IsWellShaped}
 use Rattle.private_memory.specs.PrivateAreaLaws.{UsualLaws, PrivateAccessLaws}
 use Rattle.guards.specs.Temporaries.{HasTempsBelow}
 use Rattle.guards.specs.Guarding.{is_stop, has_loose_stop, turn_stores, guarded_ops, guarded_block, guarded_unit, AreAddresses}
-use Rattle.guards.specs.States.{Beside, IsKept, NamesTurn, point_of, OwesTurn, StatePair, IsSafe}
+use Rattle.guards.specs.States.{DiffersByArea, IsLoweredStorage, NamesTurn, point_of, OwesTurn, StatePair, IsSafe}
 use Rattle.guards.proofs.Sides.{SameArea, BothGo, Meets}
 use Rattle.guards.proofs.Keeping.{ops_keep, fresh_kept}
 use Rattle.guards.proofs.GuardedLists.{AreOps, RunsAlike, runs_alike, lists_frameless}
@@ -60,7 +60,7 @@ pub record IsAsked (u : CodeUnit) : Type 0 where
   pub temps : HasTempsBelow 1399997 u.whole
   pub addresses : AreAddresses u.whole
 
-pub fresh_beside : (x y : Storage) → Beside x y → Beside (fresh x) (fresh y)
+pub fresh_beside : (x y : Storage) → DiffersByArea x y → DiffersByArea (fresh x) (fresh y)
 fresh_beside x y h = record { regs = h.regs; flags = h.flags; temps = λ k l. refl; memory = h.memory; left = h.left; no_frame = h.no_frame; no_frame' = h.no_frame'; esp0 = h.esp0 }
 
 pub among : (blocks : List Block) (k : ℕ) (b : Block) → slice_get blocks k ≡ Some b → Contains blocks b
@@ -104,7 +104,7 @@ module _ (laws : LawsBelow) (u : CodeUnit) (asked : IsAsked u) where
       let c = among u.whole k b e in
       record { form = asked.form.whole.ops b c; frameless = (All-contains IsFramelessBlock u.whole b asked.shape.whole c).ops; below = (asked.temps b c).ops }
 
-  module _ (turn k : ℕ) (x y : Storage) (h : Beside x y) (kept : IsKept y) (owes : OwesTurn u.whole (Ok k) y.memory turn) (b : Block) (is : slice_get u.whole k ≡ Some b) where
+  module _ (turn k : ℕ) (x y : Storage) (h : DiffersByArea x y) (kept : IsLoweredStorage y) (owes : OwesTurn u.whole (Ok k) y.memory turn) (b : Block) (is : slice_get u.whole k ≡ Some b) where
     abbrev t : ℕ
     t = turn_of turn b
 
@@ -190,7 +190,7 @@ module _ (laws : LawsBelow) (u : CodeUnit) (asked : IsAsked u) where
     at_block = block_by (performs t b.ops (fresh x)) (performs t (guarded_ops b.ops) starts.storage) refl refl alike.meets
 
   -- ---- the meeting
-  at_index : (turn k : ℕ) (x y : Storage) → Beside x y → IsKept y → OwesTurn u.whole (Ok k) y.memory turn → Both (state_at turn (Before k) x) (state_at turn (Before k) y)
+  at_index : (turn k : ℕ) (x y : Storage) → DiffersByArea x y → IsLoweredStorage y → OwesTurn u.whole (Ok k) y.memory turn → Both (state_at turn (Before k) x) (state_at turn (Before k) y)
   at_index turn k x y h kept owes = cases (slice_get u.whole k) refl
     where
       cases : (o : Option Block) → slice_get u.whole k ≡ o → Both (state_at turn (Before k) x) (state_at turn (Before k) y)
@@ -200,7 +200,7 @@ module _ (laws : LawsBelow) (u : CodeUnit) (asked : IsAsked u) where
           (laws.units.moves.no_block u turn k x (ap (λ frames. slice_get (blocks_of u frames) k) h.no_frame ∙ e))
           (laws.units.moves.no_block v turn k y (ap (λ frames. slice_get (blocks_of v frames) k) h.no_frame' ∙ mapped_none (guarded_block loose) u.whole k e))
 
-  at_place : (turn : ℕ) (place : Result ℕ End) (x y : Storage) → Beside x y → IsKept y → OwesTurn u.whole place y.memory turn → Both (state_at turn (point_of place) x) (state_at turn (point_of place) y)
+  at_place : (turn : ℕ) (place : Result ℕ End) (x y : Storage) → DiffersByArea x y → IsLoweredStorage y → OwesTurn u.whole place y.memory turn → Both (state_at turn (point_of place) x) (state_at turn (point_of place) y)
   at_place turn (Ok k) x y h kept owes = at_index turn k x y h kept owes
   at_place turn (Err e) x y h kept owes = both_stand (state_at turn (Over e) x) (state_at turn (Over e) y) e (laws.units.moves.over u turn e x) (laws.units.moves.over v turn e y)
 

@@ -22,7 +22,7 @@ use Rattle.flag_ir.specs.UnitRun.{Before, Over, UnitState, state_at, performed, 
 use Rattle.private_memory.specs.PrivateArea.{without_private, IsUsual}
 use Rattle.guards.specs.Guarding.{has_loose_stop, guarded_unit}
 use Rattle.guards.specs.Lowering.{KeepsWithoutArea}
-use Rattle.guards.specs.States.{Beside, IsKept, point_of, OwesTurn, StatePair}
+use Rattle.guards.specs.States.{DiffersByArea, IsLoweredStorage, point_of, OwesTurn, StatePair}
 use Rattle.guards.proofs.GuardedBlocks.{address_mapped, jump_is}
 use Rattle.guards.proofs.SideBySide.{LawsBelow, IsAsked, left, right, Both, meets}
 use Rattle.guards.proofs.Shaping.{well_shaped}
@@ -71,7 +71,7 @@ module _ (laws : LawsBelow) where
   first_is_word : (esp0 n : ℕ) → IsWord (first_registers esp0 n)
   first_is_word esp0 n = elim (n == 4) as (λ z. IsWord (cond z (word_of esp0) (word_of 0))) [ true ↦ laws.words.word_of_bytes esp0 | false ↦ laws.words.word_of_bytes 0 ]
 
-  pub first_kept : (m : Memory) (esp0 : ℕ) (stack : List ℕ) (env : Environment) → HasBytes m → IsUsual esp0 m → IsStart esp0 stack → IsEnvironment env → IsKept (first_storage m esp0 stack env)
+  pub first_kept : (m : Memory) (esp0 : ℕ) (stack : List ℕ) (env : Environment) → HasBytes m → IsUsual esp0 m → IsStart esp0 stack → IsEnvironment env → IsLoweredStorage (first_storage m esp0 stack env)
   unfolding first_storage
   first_kept m esp0 stack env bytes is_usual start environment = record {
     no_frame = refl;
@@ -88,7 +88,7 @@ module _ (laws : LawsBelow) where
     };
   }
 
-  first_beside : (m : Memory) (esp0 : ℕ) (stack : List ℕ) (env : Environment) → IsStart esp0 stack → Beside (first_storage (without_private m) esp0 stack env) (first_storage m esp0 stack env)
+  first_beside : (m : Memory) (esp0 : ℕ) (stack : List ℕ) (env : Environment) → IsStart esp0 stack → DiffersByArea (first_storage (without_private m) esp0 stack env) (first_storage m esp0 stack env)
   unfolding first_storage
   first_beside m esp0 stack env start = record { regs = refl; flags = refl; temps = λ k l. refl; memory = sym (λ i a. laws.usual.stack esp0 stack m start a i); left = refl; no_frame = refl; no_frame' = refl; esp0 = refl }
 

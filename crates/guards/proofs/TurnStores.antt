@@ -16,7 +16,7 @@ use Rattle.flag_ir.specs.Form.{IsFrameless}
 use Rattle.private_memory.specs.PrivateArea.{is_private, without_private}
 use Rattle.private_memory.specs.PrivateAreaLaws.{PrivateAccessLaws}
 use Rattle.guards.specs.Guarding.{is_stop, turn_store, turn_stores}
-use Rattle.guards.specs.States.{Beside, IsKept, NamesTurn}
+use Rattle.guards.specs.States.{DiffersByArea, IsLoweredStorage, NamesTurn}
 use Rattle.guards.proofs.Sides.{SameArea}
 use Rattle.guards.proofs.Keeping.{ops_keep}
 
@@ -36,18 +36,18 @@ module _ (words : WordLaws) (memory : MemoryLaws) (area : PrivateAccessLaws) (tu
   abbrev stored_at : ℕ → Storage → Storage
   stored_at at v = with_memory v (put_all 0x75000004 (word_list (word_of at)) v.memory)
 
-  allowed : (v : Storage) → IsKept v → allows_all Store v.memory 0x75000004 4 ≡ true
+  allowed : (v : Storage) → IsLoweredStorage v → allows_all Store v.memory 0x75000004 4 ≡ true
   allowed v kept = area.allows_area Store v.memory 0x75000004 4 kept.area (omega arith) (omega arith)
 
-  store_runs : (at : ℕ) (v : Storage) → IsKept v → performs turn (turn_store at ∷ []) v ≡ Ok (stored_at at v)
+  store_runs : (at : ℕ) (v : Storage) → IsLoweredStorage v → performs turn (turn_store at ∷ []) v ≡ Ok (stored_at at v)
   unfolding performs perform known word_of
   store_runs at v kept = ap (λ b. and_then (and_then (cond b (Ok (put_all 0x75000004 (word_list (word_of at)) v.memory)) (Err MemoryFault)) (λ m. Ok (with_memory v m))) (performs turn [])) (allowed v kept)
 
-  store_shows : (at : ℕ) (v : Storage) → IsKept v → shown_by_all turn (turn_store at ∷ []) v ≡ []
+  store_shows : (at : ℕ) (v : Storage) → IsLoweredStorage v → shown_by_all turn (turn_store at ∷ []) v ≡ []
   unfolding shown_by_all perform known word_of
   store_shows at v kept = ap (λ b. shown_with (and_then (cond b (Ok (put_all 0x75000004 (word_list (word_of at)) v.memory)) (Err MemoryFault)) (λ m. Ok (with_memory v m))) [] (shown_by_all turn [])) (allowed v kept)
 
-  names_stored : (at : ℕ) (v : Storage) → IsKept v → at < 2 ^ 32 → NamesTurn (stored_at at v).memory at
+  names_stored : (at : ℕ) (v : Storage) → IsLoweredStorage v → at < 2 ^ 32 → NamesTurn (stored_at at v).memory at
   names_stored at v kept small =
       ap (λ bs. known (padded bs)) (memory.stored_is_loaded Store 0x75000004 (word_list (word_of at)) v.memory (omega arith) (allowed v kept))
       ∙ (ap known (words.padded_list (word_of at)) ∙ words.known_word at small)
@@ -66,7 +66,7 @@ module _ (words : WordLaws) (memory : MemoryLaws) (area : PrivateAccessLaws) (tu
       cases true e = hidden (put_all 0x75000004 (word_list (word_of at)) m) a true e ∙ sym (hidden m a true e)
       cases false e = hidden (put_all 0x75000004 (word_list (word_of at)) m) a false e ∙ (stored_elsewhere (word_list (word_of at)) m a refl e ∙ sym (hidden m a false e))
 
-  stored_beside : (at : ℕ) (u v : Storage) → Beside u v → Beside u (stored_at at v)
+  stored_beside : (at : ℕ) (u v : Storage) → DiffersByArea u v → DiffersByArea u (stored_at at v)
   stored_beside at u v h = record { regs = h.regs; flags = h.flags; temps = h.temps; memory = h.memory ∙ sym (λ i a. same_without at v.memory a i); left = h.left; no_frame = h.no_frame; no_frame' = h.no_frame'; esp0 = h.esp0 }
 
   -- ---- what stands before the list of a block
@@ -74,8 +74,8 @@ module _ (words : WordLaws) (memory : MemoryLaws) (area : PrivateAccessLaws) (tu
     pub storage : Storage
     pub runs : performs turn (turn_stores loose at e) v ≡ Ok storage
     pub shows : shown_by_all turn (turn_stores loose at e) v ≡ []
-    pub beside : Beside u storage
-    pub kept : IsKept storage
+    pub beside : DiffersByArea u storage
+    pub kept : IsLoweredStorage storage
     pub stays : (at == 0) ≡ true → storage ≡ v
     pub names : (at == 0) ≡ false → (loose || is_stop e) ≡ true → NamesTurn storage.memory at
 
@@ -83,7 +83,7 @@ module _ (words : WordLaws) (memory : MemoryLaws) (area : PrivateAccessLaws) (tu
     one_frameless : (at : ℕ) → All IsFrameless (turn_store at ∷ [])
     one_frameless at = All-from_recursion IsFrameless (turn_store at ∷ []) (tt, tt)
 
-    pub begun : (loose : Bool) (at : ℕ) (e : Exit) (u v : Storage) → at < 2 ^ 32 → Beside u v → IsKept v → Begun loose at e u v
+    pub begun : (loose : Bool) (at : ℕ) (e : Exit) (u v : Storage) → at < 2 ^ 32 → DiffersByArea u v → IsLoweredStorage v → Begun loose at e u v
     unfolding performs shown_by_all
     begun loose at e u v small h kept = cases (at == 0) (loose || is_stop e) refl refl
       where

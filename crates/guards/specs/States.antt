@@ -16,7 +16,7 @@ use Rattle.private_memory.specs.PrivateArea.{without_private, IsApartAccess, Has
 use Rattle.guards.specs.Guarding.{has_loose_stop}
 
 -- the second storage has the private area, and the fresh temporaries
-pub record Beside (u v : Storage) : Type 0 where
+pub record DiffersByArea (u v : Storage) : Type 0 where
   pub regs : u.regs ≡ v.regs
   pub flags : u.flags ≡ v.flags
   pub temps : (k : ℕ) → k < 1399997 → u.temps k ≡ v.temps k
@@ -27,7 +27,7 @@ pub record Beside (u v : Storage) : Type 0 where
   pub esp0 : u.esp0 ≡ v.esp0
 
 -- what holds of the second one alone: known bytes are below 256
-pub record IsKept (v : Storage) : Type 0 where
+pub record IsLoweredStorage (v : Storage) : Type 0 where
   pub no_frame : v.frames ≡ []
   pub area : HasPrivateArea v.memory
   pub formed : StorageLessSpecified v v
@@ -51,8 +51,8 @@ pub record StatePair (u : CodeUnit) : Type 0 where
   pub place : Result ℕ End
   pub first : Storage
   pub second : Storage
-  pub beside : Beside first second
-  pub kept : IsKept second
+  pub beside : DiffersByArea first second
+  pub kept : IsLoweredStorage second
   pub owes : OwesTurn u.whole place second.memory turn
 
 -- ---- states that make no access to what the program mustn't reach
@@ -67,5 +67,5 @@ IsSafePoint turn (Within ops e) v = AreSafe turn ops v × All IsFrameless ops ×
 IsSafePoint turn (Over e) v = Unit {0}
 
 pub record IsSafe (s : UnitState) : Type 0 where
-  pub kept : IsKept s.storage
+  pub kept : IsLoweredStorage s.storage
   pub point : IsSafePoint s.turn s.point s.storage
