@@ -1,0 +1,17 @@
+pub mod Addresses
+pub mod Sides
+pub mod Buffers
+pub mod GuardedOps
+pub mod GuardedRuns
+pub mod Keeping
+pub mod GuardedLists
+pub mod UnitSteps
+pub mod TurnStores
+pub mod GuardedBlocks
+pub mod SideBySide
+pub mod Shaping
+pub mod Costing
+pub mod Starting
+pub mod Safety
+pub mod Lowered
+pub mod WorkedRuns

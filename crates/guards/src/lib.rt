@@ -1,0 +1,13 @@
+//! Lowering of units: no access of the program starts in the private area of the written file.
+#![tactic(auto)]
+
+mod area;
+mod laws;
+mod operations;
+#[cfg(test)]
+mod tests;
+mod units;
+mod worked;
+
+pub use units::lower;
+pub use worked::worked_units;

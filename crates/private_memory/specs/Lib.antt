@@ -1,0 +1,2 @@
+pub mod PrivateArea
+pub mod PrivateAreaLaws
