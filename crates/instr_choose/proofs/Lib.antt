@@ -7,6 +7,7 @@ pub mod Choosing
 pub mod Memories
 pub mod Quotients
 pub mod Dividing
+pub mod Behind
 pub mod Meeting
 pub mod Growing
 pub mod SmallUnits

@@ -15,6 +15,7 @@ use Rattle.instr_choose.proofs.Rules.{Comes, ends, needs, each_size}
 use Rattle.instr_choose.proofs.Choosing.{LawsBelow, set_meets, pick_meets, calc_meets}
 use Rattle.instr_choose.proofs.Memories.{load_meets, store_meets, system_meets}
 use Rattle.instr_choose.proofs.Dividing.{divide_meets}
+use Rattle.instr_choose.proofs.Behind.{lists_meet}
 
 module _ (laws : LawsBelow) where
   abbrev Met : ℕ → Op → Storage → CodeState → Type 0
@@ -39,4 +40,4 @@ module _ (laws : LawsBelow) where
   comes turn op.NearSystem u s i f h = absurd f
 
   pub choosing_laws : ChoosingLaws
-  choosing_laws = record { meets = λ turn o u s i f h. (comes turn o u s i f h).met }
+  choosing_laws = record { meets = λ turn o u s i f h. (comes turn o u s i f h).met; lists_meet = lists_meet (λ turn o u s i f h. (comes turn o u s i f h).met) }

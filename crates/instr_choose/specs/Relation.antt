@@ -1,5 +1,5 @@
 -- A lowered unit's storage beside the places of its variables, and what a list owes to its operation. All of this is own.
-use Rattle.std.specs.Prelude.{◌≡◌, ◌≢◌, ℕ, List, [], ◌∷◌, ◌++◌, map, Result, Ok, Err}
+use Rattle.std.specs.Prelude.{◌≡◌, ◌≢◌, ℕ, List, [], ◌∷◌, ◌++◌, All, map, Result, Ok, Err}
 use Rattle.outside.specs.Environment.{IsEnvironment}
 use Rattle.x86_values.specs.LessSpecified.{WordLessSpecified}
 use Rattle.traces.specs.Trace.{Label, End, Go, Halt, Unspecified}
@@ -7,11 +7,11 @@ use Rattle.memory.specs.LessSpecified.{MemoryLessSpecified}
 use Rattle.flag_ir.specs.declared.variable.Var.{Var}
 use Rattle.flag_ir.specs.declared.operation.Op.{Op}
 use Rattle.flag_ir.specs.Storage.{Storage, var_in}
-use Rattle.flag_ir.specs.Operations.{perform, shown_by}
+use Rattle.flag_ir.specs.Operations.{perform, performs, shown_by, shown_by_all}
 use Rattle.flag_ir.specs.Form.{IsVar, IsOp, IsFrameless}
 use Rattle.named_code.specs.Items.{Item, named_item, name_place}
 use Rattle.named_code.specs.Running.{CodeState, CodePoint, standing_at, act}
-use Rattle.instr_choose.specs.Lists.{name_of, choose_op}
+use Rattle.instr_choose.specs.Lists.{name_of, choose_op, choose_ops}
 
 abbrev pub place_of_var : Var → ℕ
 place_of_var v = name_place (name_of v)
@@ -46,7 +46,22 @@ abbrev pub IsMetBy : Result Storage End → List Label → List Item → CodeSta
 IsMetBy (Ok u) ls xs s = PassesTo xs s ls u
 IsMetBy (Err e) ls xs s = (e ≢ Unspecified) → Fails xs s e
 
+-- ---- the same of several operations. Where one ends, the instructions before its list have shown what was shown before it
+pub record Stops (xs : List Item) (s : CodeState) (ls : List Label) (e : End) : Type 0 where
+  pub front : List Item
+  pub rest : List Item
+  pub is : xs ≡ front ++ rest
+  pub state : CodeState
+  pub passes : Passes front s ls state
+  pub fails : e ≢ Unspecified → Fails rest state e
+
+abbrev pub AreMetBy : Result Storage End → List Label → List Item → CodeState → Type 0
+AreMetBy (Ok u) ls xs s = PassesTo xs s ls u
+AreMetBy (Err e) ls xs s = Stops xs s ls e
+
 -- ---- the laws of the chosen lists
 pub record ChoosingLaws : Type 0 where
   -- from each storage that is below the places each operation of a lowered unit is met by its list
   pub meets : (turn : ℕ) (o : Op) (u : Storage) (s : CodeState) → IsOp 0 o → IsFrameless o → IsBelow u s → IsMetBy (perform turn o u) (shown_by o u) (map named_item (choose_op o)) s
+  -- and so are several, one behind the other
+  pub lists_meet : (turn : ℕ) (ops : List Op) (u : Storage) (s : CodeState) → All (IsOp 0) ops → All IsFrameless ops → IsBelow u s → AreMetBy (performs turn ops u) (shown_by_all turn ops u) (map named_item (choose_ops ops)) s
