@@ -10,18 +10,18 @@ use Rattle.flag_ir.specs.Form.{IsOp, IsFrameless}
 use Rattle.named_code.specs.Items.{Item, named_item}
 use Rattle.named_code.specs.Running.{CodeState}
 use Rattle.instr_choose.specs.Lists.{choose_op, choose_ops}
-use Rattle.instr_choose.specs.Relation.{IsBelow, Passes, done, more, Fails, here, later, IsMetBy, AreMetBy}
+use Rattle.instr_choose.specs.Relation.{IsBelow, Passes, done, more, ListEnds, here, later, IsMetByList, AreMetBy}
 
 -- ---- one list behind another
 pub passes_both : (xs ys : List Item) (s t u : CodeState) (ls ks : List Label) → Passes xs s ls t → Passes ys t ks u → Passes (xs ++ ys) s (ls ++ ks) u
 passes_both _ ys _ t u _ ks (done s) q = q
 passes_both _ ys _ t u _ ks (more x xs s ls m js v h p) q = subst (λ (l : List Label). Passes (x ∷ (xs ++ ys)) s l u) (sym (append_assoc ls js ks)) (more x (xs ++ ys) s ls m (js ++ ks) u h (passes_both xs ys m t u js ks p q))
 
-pub fails_first : (xs ys : List Item) (s : CodeState) (e : End) → Fails xs s e → Fails (xs ++ ys) s e
+pub fails_first : (xs ys : List Item) (s : CodeState) (e : End) → ListEnds xs s e → ListEnds (xs ++ ys) s e
 fails_first _ ys s e (here x xs _ _ h) = here x (xs ++ ys) s e h
 fails_first _ ys s e (later x xs _ t _ h f) = later x (xs ++ ys) s t e h (fails_first xs ys t e f)
 
-module _ (meets : (turn : ℕ) (o : Op) (u : Storage) (s : CodeState) → IsOp 0 o → IsFrameless o → IsBelow u s → IsMetBy (perform turn o u) (shown_by o u) (map named_item (choose_op o)) s) (turn : ℕ) where
+module _ (meets : (turn : ℕ) (o : Op) (u : Storage) (s : CodeState) → IsOp 0 o → IsFrameless o → IsBelow u s → IsMetByList (perform turn o u) (shown_by o u) (map named_item (choose_op o)) s) (turn : ℕ) where
   abbrev Met : List Op → Storage → CodeState → Type 0
   Met ops u s = AreMetBy (performs turn ops u) (shown_by_all turn ops u) (map named_item (choose_ops ops)) s
 
@@ -36,7 +36,7 @@ module _ (meets : (turn : ℕ) (o : Op) (u : Storage) (s : CodeState) → IsOp 0
     fails = h.fails;
   }
 
-  one_more : (o : Op) (os : List Op) (s : CodeState) (r : Result Storage End) (ls : List Label) → IsMetBy r ls (map named_item (choose_op o)) s → ((v : Storage) (t : CodeState) → IsBelow v t → Met os v t)
+  one_more : (o : Op) (os : List Op) (s : CodeState) (r : Result Storage End) (ls : List Label) → IsMetByList r ls (map named_item (choose_op o)) s → ((v : Storage) (t : CodeState) → IsBelow v t → Met os v t)
       → AreMetBy (and_then r (performs turn os)) (shown_with r ls (shown_by_all turn os)) (map named_item (choose_op o) ++ map named_item (choose_ops os)) s
   one_more o os s (Ok v) ls h k = behind (performs turn os v) (map named_item (choose_op o)) (map named_item (choose_ops os)) s h.state ls (shown_by_all turn os v) h.passes (k v h.state h.below)
   one_more o os s (Err e) ls h k = record {

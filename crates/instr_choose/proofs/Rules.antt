@@ -7,14 +7,14 @@ use Rattle.flag_ir.specs.Storage.{Storage}
 use Rattle.flag_ir.specs.Operations.{and_then, needed}
 use Rattle.named_code.specs.Items.{Item}
 use Rattle.named_code.specs.Running.{CodeState, CodePoint, standing_at, act}
-use Rattle.instr_choose.specs.Relation.{IsBelow, done, more, here, later, IsMetBy}
+use Rattle.instr_choose.specs.Relation.{IsBelow, done, more, here, later, IsMetByList}
 
 -- a record, so that its parts are found
 pub record Comes (r : Result Storage End) (ls : List Label) (xs : List Item) (s : CodeState) : Type 0 where
-  pub met : IsMetBy r ls xs s
+  pub met : IsMetByList r ls xs s
 
 -- an instruction that goes on
-then_by : (r : Result Storage End) (ls : List Label) (x : Item) (xs : List Item) (s t : CodeState) → ((rest : List Item) → act x rest s ≡ Go [] (standing_at (CodePoint.Inside rest) t)) → IsMetBy r ls xs t → IsMetBy r ls (x ∷ xs) s
+then_by : (r : Result Storage End) (ls : List Label) (x : Item) (xs : List Item) (s t : CodeState) → ((rest : List Item) → act x rest s ≡ Go [] (standing_at (CodePoint.Inside rest) t)) → IsMetByList r ls xs t → IsMetByList r ls (x ∷ xs) s
 then_by (Ok u) ls x xs s t h k = record { state = k.state; passes = more x xs s [] t ls k.state h k.passes; below = k.below }
 then_by (Err e) ls x xs s t h k = λ defined. later x xs s t e h (k defined)
 

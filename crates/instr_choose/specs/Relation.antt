@@ -30,9 +30,9 @@ pub data Passes : List Item → CodeState → List Label → CodeState → Type 
   done : (s : CodeState) → Passes [] s [] s
   more : (x : Item) (xs : List Item) (s : CodeState) (ls : List Label) (t : CodeState) (ks : List Label) (u : CodeState) → ((rest : List Item) → act x rest s ≡ Go ls (standing_at (CodePoint.Inside rest) t)) → Passes xs t ks u → Passes (x ∷ xs) s (ls ++ ks) u
 
-pub data Fails : List Item → CodeState → End → Type 0 where
-  here : (x : Item) (xs : List Item) (s : CodeState) (e : End) → ((rest : List Item) → act x rest s ≡ Halt [] e) → Fails (x ∷ xs) s e
-  later : (x : Item) (xs : List Item) (s : CodeState) (t : CodeState) (e : End) → ((rest : List Item) → act x rest s ≡ Go [] (standing_at (CodePoint.Inside rest) t)) → Fails xs t e → Fails (x ∷ xs) s e
+pub data ListEnds : List Item → CodeState → End → Type 0 where
+  here : (x : Item) (xs : List Item) (s : CodeState) (e : End) → ((rest : List Item) → act x rest s ≡ Halt [] e) → ListEnds (x ∷ xs) s e
+  later : (x : Item) (xs : List Item) (s : CodeState) (t : CodeState) (e : End) → ((rest : List Item) → act x rest s ≡ Go [] (standing_at (CodePoint.Inside rest) t)) → ListEnds xs t e → ListEnds (x ∷ xs) s e
 
 -- the list passes to a state that the result is below
 pub record PassesTo (xs : List Item) (s : CodeState) (ls : List Label) (u : Storage) : Type 0 where
@@ -42,9 +42,9 @@ pub record PassesTo (xs : List Item) (s : CodeState) (ls : List Label) (u : Stor
 
 -- ---- what a list owes: where the operation goes on, the list does, and shows the same; where it ends, the list does so. Nothing is
 -- asked where an unspecified value was used
-abbrev pub IsMetBy : Result Storage End → List Label → List Item → CodeState → Type 0
-IsMetBy (Ok u) ls xs s = PassesTo xs s ls u
-IsMetBy (Err e) ls xs s = (e ≢ Unspecified) → Fails xs s e
+abbrev pub IsMetByList : Result Storage End → List Label → List Item → CodeState → Type 0
+IsMetByList (Ok u) ls xs s = PassesTo xs s ls u
+IsMetByList (Err e) ls xs s = (e ≢ Unspecified) → ListEnds xs s e
 
 -- ---- the same of several operations. Where one ends, the instructions before its list have shown what was shown before it
 pub record Stops (xs : List Item) (s : CodeState) (ls : List Label) (e : End) : Type 0 where
@@ -53,7 +53,7 @@ pub record Stops (xs : List Item) (s : CodeState) (ls : List Label) (e : End) : 
   pub is : xs ≡ front ++ rest
   pub state : CodeState
   pub passes : Passes front s ls state
-  pub fails : e ≢ Unspecified → Fails rest state e
+  pub fails : e ≢ Unspecified → ListEnds rest state e
 
 abbrev pub AreMetBy : Result Storage End → List Label → List Item → CodeState → Type 0
 AreMetBy (Ok u) ls xs s = PassesTo xs s ls u
@@ -62,6 +62,6 @@ AreMetBy (Err e) ls xs s = Stops xs s ls e
 -- ---- the laws of the chosen lists
 pub record ChoosingLaws : Type 0 where
   -- from each storage that is below the places each operation of a lowered unit is met by its list
-  pub meets : (turn : ℕ) (o : Op) (u : Storage) (s : CodeState) → IsOp 0 o → IsFrameless o → IsBelow u s → IsMetBy (perform turn o u) (shown_by o u) (map named_item (choose_op o)) s
+  pub meets : (turn : ℕ) (o : Op) (u : Storage) (s : CodeState) → IsOp 0 o → IsFrameless o → IsBelow u s → IsMetByList (perform turn o u) (shown_by o u) (map named_item (choose_op o)) s
   -- and so are several, one behind the other
   pub lists_meet : (turn : ℕ) (ops : List Op) (u : Storage) (s : CodeState) → All (IsOp 0) ops → All IsFrameless ops → IsBelow u s → AreMetBy (performs turn ops u) (shown_by_all turn ops u) (map named_item (choose_ops ops)) s

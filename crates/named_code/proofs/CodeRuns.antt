@@ -13,7 +13,7 @@ use Rattle.named_code.specs.Items.{Item, CodeBlock}
 use Rattle.named_code.specs.Running.{CodePosition, Marks, code_next}
 use Rattle.named_code.specs.CodeRun.{first_position, blocks_run}
 use Rattle.named_code.specs.Weight.{step_cost, BoundsCode}
-use Rattle.named_code.specs.CodeLaws.{OncePosition, CodeLaws}
+use Rattle.named_code.specs.CodeRunLaws.{OncePosition, CodeRunLaws}
 use Rattle.named_code.proofs.CodeMoves.{next_small}
 use Rattle.named_code.proofs.Weighing.{left_in, next_paced, kept}
 
@@ -40,7 +40,7 @@ module _ (calls : CallLaws) (runs : RunLaws CodePosition) (moves : MoveLaws Code
         invariants.paced_by_costs (code_next marks code) (λ (i : OncePosition). i.position) (kept calls marks cost rest w code bounds) (step_cost cost code) w 0 (left_in calls marks cost rest w)
         (λ i. next_paced calls marks cost rest w code bounds i.position i.once) (record { position = first; once = tt }) (omega arith)
 
-  pub code_laws : CodeLaws
+  pub code_laws : CodeRunLaws
   code_laws = record {
     grow = grow;
     move_event = λ marks code p. (next_small calls marks code p).event;

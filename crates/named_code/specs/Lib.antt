@@ -1,4 +1,4 @@
-pub mod CodeLaws
+pub mod CodeRunLaws
 pub mod CodeRun
 pub mod CodeRows
 pub mod Form

@@ -95,15 +95,15 @@ step_cost cost code p = cost_at cost code p.point
 
 -- ---- a weight that is read off the text
 -- the longest way through a block is within what is left for it, or within the weight where it begins a turn
-abbrev pub IsWithin : Marks → (Item → ℕ) → (ℕ → ℕ) → ℕ → CodeBlock → Type 0
-IsWithin marks cost rest w b = most cost (left_at marks rest) b.items ≤ cond (marks b.number == 0) (rest b.number) w
+abbrev pub LongestWayFits : Marks → (Item → ℕ) → (ℕ → ℕ) → ℕ → CodeBlock → Type 0
+LongestWayFits marks cost rest w b = most cost (left_at marks rest) b.items ≤ cond (marks b.number == 0) (rest b.number) w
 
 -- no item comes again at once: no string instruction repeats
 abbrev pub IsOnce : Item → Type 0
 IsOnce x = course_of x.instr ≢ Again
 
 pub record IsBounded (marks : Marks) (cost : Item → ℕ) (rest : ℕ → ℕ) (w : ℕ) (b : CodeBlock) : Type 0 where
-  pub within : IsWithin marks cost rest w b
+  pub within : LongestWayFits marks cost rest w b
   -- a block that is entered from an old address begins a turn
   pub entered : b.at ≢ 0 → marks b.number ≢ 0
   pub once : All IsOnce b.items

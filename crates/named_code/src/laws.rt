@@ -1,5 +1,5 @@
 // The laws of the definitions.
-ghost use Rattle.named_code.specs.CodeLaws.{CodeLaws};
+ghost use Rattle.named_code.specs.CodeRunLaws.{CodeRunLaws};
 
 use memory::call_laws;
 use traces::{Family, States, invariant_laws, move_laws, run_laws};
@@ -17,7 +17,7 @@ impl States for CodeMeaning {
 struct OncePositions;
 
 impl Family for OncePositions {
-    ghost use Rattle.named_code.specs.CodeLaws.{OncePosition};
+    ghost use Rattle.named_code.specs.CodeRunLaws.{OncePosition};
 
     ghost Index = { Unit {0} };
 
@@ -27,7 +27,7 @@ impl Family for OncePositions {
 /// Its clause is the laws of code over places: its runs grow, show their events one by one and end with no stop and no guard
 /// event, and its turns cost what is read off its text.
 pub fn code_laws()
-    ensures { CodeLaws }
+    ensures { CodeRunLaws }
 {
     run_laws::<CodeMeaning>();
     move_laws::<CodeMeaning>();

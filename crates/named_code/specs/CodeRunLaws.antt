@@ -22,7 +22,7 @@ pub record OncePosition : Type 0 where
   pub position : CodePosition
   pub once : IsOncePoint position.point
 
-pub record CodeLaws : Type 0 where
+pub record CodeRunLaws : Type 0 where
   -- more steps show the same and more, and an end stays
   pub grow : (marks : Marks) (code : List CodeBlock) (m : Memory) (entry esp0 : ℕ) (stack : List ℕ) (left : Environment) → Grows (blocks_run marks code m entry esp0 stack left)
   -- each step shows at most one event, and none where the run stands
