@@ -284,23 +284,23 @@ fn counts_its_steps(rt: HostRuntime) -> Result<(), Fail> {
     Ok(())
 }
 
-/// A run of this file from its name alone, over these answers: the bytes that each write takes. It exits with 0.
+/// A run of this file from its name alone: the bytes that each write takes. It exits with 0.
 #[derive(Drop)]
 struct Answered<'a> {
     name: &'a str,
     file: &'a [u8],
-    answers: &'a [Answer],
     written: &'a [&'a [u8]],
 }
 
-// The run of the file takes the answers, and writes that.
-fn expect_answered(rt: &impl Abort, alloc: Global, row: &Answered) -> Result<(), Fail> {
-    let mut host = MemoryHost::new(alloc);
+// The run of the file over a host with answers writes that.
+fn expect_answered(
+    rt: &impl Abort,
+    alloc: Global,
+    host: &mut MemoryHost,
+    row: &Answered,
+) -> Result<(), Fail> {
     host.add_file(row.name, row.file)?;
-    for answer in row.answers {
-        host.add_answer(*answer)?;
-    }
-    let end = end_of(alloc, &["run", row.name], &mut host)?;
+    let end = end_of(alloc, &["run", row.name], host)?;
     assert_eq!(rt; end, End::Ran(RunEnd::Exited(0)), "{}", row.name);
     let moved = host.moved().as_slice();
     assert_eq!(rt; moved.len(), row.written.len(), "{}", row.name);
@@ -311,33 +311,38 @@ fn expect_answered(rt: &impl Abort, alloc: Global, row: &Answered) -> Result<(),
     Ok(())
 }
 
-// The answer to a write is an error: the program goes on, and nothing is moved. And a file as a linker lays it out, whose writes
-// take one byte each: it writes its name.
+// The answer to a write is an error: the program goes on, and nothing is moved.
 #[test]
-fn takes_answers(rt: HostRuntime) -> Result<(), Fail> {
+fn takes_errors(rt: HostRuntime) -> Result<(), Fail> {
     let alloc = rt.alloc();
-    let failing = file_of(
+    let file = file_of(
         alloc,
         b"\xB8\x04\0\0\0\xBB\x01\0\0\0\xB9\x23\x90\x04\x08\xBA\x03\0\0\0\xCD\x80\xBB\0\0\0\0\xB8\x01\0\0\0\xCD\x80\xF4\x68\x69\x0A",
     )?;
-    let linked = linked_file(alloc)?;
-    for row in [
-        Answered {
-            name: "a",
-            file: failing.as_slice(),
-            answers: &[Answer::Fail(5)],
-            written: &[b""],
-        },
-        Answered {
-            name: "ab",
-            file: linked.as_slice(),
-            answers: &[Answer::Take(1), Answer::Take(1)],
-            written: &[b"\x61", b"\x62"],
-        },
-    ] {
-        expect_answered(&rt, alloc, &row)?;
-    }
-    Ok(())
+    let mut host = MemoryHost::new(alloc);
+    host.add_answer(Answer::Fail(5))?;
+    let row = Answered {
+        name: "a",
+        file: file.as_slice(),
+        written: &[b""],
+    };
+    expect_answered(&rt, alloc, &mut host, &row)
+}
+
+// A file as a linker lays it out, whose writes take one byte each: it writes its name.
+#[test]
+fn takes_short_writes(rt: HostRuntime) -> Result<(), Fail> {
+    let alloc = rt.alloc();
+    let file = linked_file(alloc)?;
+    let mut host = MemoryHost::new(alloc);
+    host.add_answer(Answer::Take(1))?;
+    host.add_answer(Answer::Take(1))?;
+    let row = Answered {
+        name: "ab",
+        file: file.as_slice(),
+        written: &[b"\x61", b"\x62"],
+    };
+    expect_answered(&rt, alloc, &mut host, &row)
 }
 
 // A written file runs as the old one does; and another call has its line.
