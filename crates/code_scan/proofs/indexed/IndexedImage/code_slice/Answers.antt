@@ -18,8 +18,8 @@ returns-clause-bytes c =
     let size : offset + n - offset ≡ n = omega arith in
     ap (λ k. take k (drop offset bytes)) size ∙ (ap (λ k. take n (drop k bytes)) offset_is ∙ (ap (λ xs. take n (drop (c.args.at - s.start) xs)) bytes_is
     ∙ slice_of_page image s c.args.at n (omega (arith, c.if-at-count-gt4096.false, c.from-at.ensures))
-      (subst (λ k. segment_at image k ≡ Some s) c.from-at.ensures c.in_ok-segment.ensures.there)
-      (subst (λ k. (b : ℕ) → b / 4096 ≡ k / 4096 → segment_at image b ≡ segment_at image k) c.from-at.ensures c.in_ok-segment.ensures.page)
-      (sym c.if-not-is_code.ensures)
-      (subst (λ k. holds k s ≡ true) c.from-at.ensures c.in_ok-segment.ensures.holds)
-      (subst (λ k. k + n ≤ length s.bytes) offset_is (subst (λ (xs : List ℕ). offset + n ≤ length xs) bytes_is c.if-bytes-offset.false))))
+    (subst (λ k. segment_at image k ≡ Some s) c.from-at.ensures c.in_ok-segment.ensures.there)
+    (subst (λ k. (b : ℕ) → b / 4096 ≡ k / 4096 → segment_at image b ≡ segment_at image k) c.from-at.ensures c.in_ok-segment.ensures.page)
+    (sym c.if-not-is_code.ensures)
+    (subst (λ k. holds k s ≡ true) c.from-at.ensures c.in_ok-segment.ensures.holds)
+    (subst (λ k. k + n ≤ length s.bytes) offset_is (subst (λ (xs : List ℕ). offset + n ≤ length xs) bytes_is c.if-bytes-offset.false))))
