@@ -52,7 +52,7 @@ fn chooses_a_sum(rt: HostRuntime) -> Result<(), Fail> {
         from: Src::Imm(5),
     };
     assert_eq!(rt; instrs[1].instr, add);
-    assert_eq!(rt; instrs[1].slots.as_slice()[0], Slot::Name(3));
+    assert_eq!(rt; instrs[1].slots.as_slice(), [Slot::Name(3)].as_slice());
     assert_eq!(rt; instrs[2].instr, Instr::Nop);
     Ok(())
 }
