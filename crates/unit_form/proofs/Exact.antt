@@ -18,7 +18,7 @@ use Rattle.flag_ir.specs.declared.procedure.Proc.{Proc}
 use Rattle.flag_ir.specs.Entering.{CodeUnit}
 use Rattle.flag_ir.specs.Form.{IsVar, IsTerm, IsOp, IsExit, IsPartInForm, IsProcInForm, IsFrameless, IsFramelessExit, IsFramelessBlock, IsLoweredInForm, IsInForm}
 use Rattle.unit_form.specs.Fits.{size_fits, var_fits, term_fits, op_fits, has_entry, exit_fits, block_fits, part_fits, proc_fits, needs_no_frame, leaves_no_frame, frameless, lowered_fits, form_fits}
-use Rattle.unit_form.proofs.Tests.{true_exact, false_exact, below_exact, same_exact, and_exact, three, four, six, all_exact}
+use Rattle.unit_form.proofs.BooleanTests.{true_exact, false_exact, below_exact, same_exact, and_exact, three, four, six, all_exact}
 use Rattle.unit_form.proofs.Numbered.{numbered_exact}
 
 pub var_exact : (locals : ℕ) (v : Var) → (var_fits locals v ≡ true) ↔ IsVar locals v

@@ -1,3 +1,3 @@
-pub mod Tests
+pub mod BooleanTests
 pub mod Exact
 pub mod Numbered
