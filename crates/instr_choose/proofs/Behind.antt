@@ -10,12 +10,12 @@ use Rattle.flag_ir.specs.Form.{IsOp, IsFrameless}
 use Rattle.named_code.specs.Items.{Item, named_item}
 use Rattle.named_code.specs.Running.{CodeState}
 use Rattle.instr_choose.specs.Lists.{choose_op, choose_ops}
-use Rattle.instr_choose.specs.Relation.{IsBelow, Passes, done, more, ListEnds, here, later, IsMetByList, AreMetBy}
+use Rattle.instr_choose.specs.Relation.{IsBelow, PassesList, done, more, ListEnds, here, later, IsMetByList, AreMetBy}
 
 -- ---- one list behind another
-pub passes_both : (xs ys : List Item) (s t u : CodeState) (ls ks : List Label) → Passes xs s ls t → Passes ys t ks u → Passes (xs ++ ys) s (ls ++ ks) u
+pub passes_both : (xs ys : List Item) (s t u : CodeState) (ls ks : List Label) → PassesList xs s ls t → PassesList ys t ks u → PassesList (xs ++ ys) s (ls ++ ks) u
 passes_both _ ys _ t u _ ks (done s) q = q
-passes_both _ ys _ t u _ ks (more x xs s ls m js v h p) q = subst (λ (l : List Label). Passes (x ∷ (xs ++ ys)) s l u) (sym (append_assoc ls js ks)) (more x (xs ++ ys) s ls m (js ++ ks) u h (passes_both xs ys m t u js ks p q))
+passes_both _ ys _ t u _ ks (more x xs s ls m js v h p) q = subst (λ (l : List Label). PassesList (x ∷ (xs ++ ys)) s l u) (sym (append_assoc ls js ks)) (more x (xs ++ ys) s ls m (js ++ ks) u h (passes_both xs ys m t u js ks p q))
 
 pub fails_first : (xs ys : List Item) (s : CodeState) (e : End) → ListEnds xs s e → ListEnds (xs ++ ys) s e
 fails_first _ ys s e (here x xs _ _ h) = here x (xs ++ ys) s e h
@@ -25,7 +25,7 @@ module _ (meets : (turn : ℕ) (o : Op) (u : Storage) (s : CodeState) → IsOp 0
   abbrev Met : List Op → Storage → CodeState → Type 0
   Met ops u s = AreMetBy (performs turn ops u) (shown_by_all turn ops u) (map named_item (choose_ops ops)) s
 
-  behind : (r : Result Storage End) (xs ys : List Item) (s t : CodeState) (ls ks : List Label) → Passes xs s ls t → AreMetBy r ks ys t → AreMetBy r (ls ++ ks) (xs ++ ys) s
+  behind : (r : Result Storage End) (xs ys : List Item) (s t : CodeState) (ls ks : List Label) → PassesList xs s ls t → AreMetBy r ks ys t → AreMetBy r (ls ++ ks) (xs ++ ys) s
   behind (Ok v) xs ys s t ls ks p h = record { state = h.state; passes = passes_both xs ys s t h.state ls ks p h.passes; below = h.below }
   behind (Err e) xs ys s t ls ks p h = record {
     front = xs ++ h.front;

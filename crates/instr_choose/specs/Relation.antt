@@ -26,9 +26,9 @@ pub record IsBelow (u : Storage) (s : CodeState) : Type 0 where
 
 -- ---- lists of items that don't jump, wherever they stand: they go from a state to another and show these labels, or one of them
 -- comes to an end before anything is shown
-pub data Passes : List Item → CodeState → List Label → CodeState → Type 0 where
-  done : (s : CodeState) → Passes [] s [] s
-  more : (x : Item) (xs : List Item) (s : CodeState) (ls : List Label) (t : CodeState) (ks : List Label) (u : CodeState) → ((rest : List Item) → act x rest s ≡ Go ls (standing_at (CodePoint.Inside rest) t)) → Passes xs t ks u → Passes (x ∷ xs) s (ls ++ ks) u
+pub data PassesList : List Item → CodeState → List Label → CodeState → Type 0 where
+  done : (s : CodeState) → PassesList [] s [] s
+  more : (x : Item) (xs : List Item) (s : CodeState) (ls : List Label) (t : CodeState) (ks : List Label) (u : CodeState) → ((rest : List Item) → act x rest s ≡ Go ls (standing_at (CodePoint.Inside rest) t)) → PassesList xs t ks u → PassesList (x ∷ xs) s (ls ++ ks) u
 
 pub data ListEnds : List Item → CodeState → End → Type 0 where
   here : (x : Item) (xs : List Item) (s : CodeState) (e : End) → ((rest : List Item) → act x rest s ≡ Halt [] e) → ListEnds (x ∷ xs) s e
@@ -37,7 +37,7 @@ pub data ListEnds : List Item → CodeState → End → Type 0 where
 -- the list passes to a state that the result is below
 pub record PassesTo (xs : List Item) (s : CodeState) (ls : List Label) (u : Storage) : Type 0 where
   pub state : CodeState
-  pub passes : Passes xs s ls state
+  pub passes : PassesList xs s ls state
   pub below : IsBelow u state
 
 -- ---- what a list owes: where the operation goes on, the list does, and shows the same; where it ends, the list does so. Nothing is
@@ -52,7 +52,7 @@ pub record Stops (xs : List Item) (s : CodeState) (ls : List Label) (e : End) : 
   pub rest : List Item
   pub is : xs ≡ front ++ rest
   pub state : CodeState
-  pub passes : Passes front s ls state
+  pub passes : PassesList front s ls state
   pub fails : e ≢ Unspecified → ListEnds rest state e
 
 abbrev pub AreMetBy : Result Storage End → List Label → List Item → CodeState → Type 0
