@@ -52,7 +52,6 @@ impl Model for TableExtents {
 }
 
 // The same extents, each with the greatest end up to it.
-
 fn raise(alloc: Global, ordered: &[TableExtent]) -> Result<Vec<TableExtent>, AllocError>
     ensures { IfOk result (λ v. v.items ≡ raised 0 ordered.now) }
 {
