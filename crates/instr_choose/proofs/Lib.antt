@@ -11,3 +11,7 @@ pub mod Behind
 pub mod Meeting
 pub mod Growing
 pub mod SmallUnits
+pub mod Naming
+pub mod Forming
+pub mod Chosen
+pub mod Costing

@@ -1,4 +1,6 @@
 pub mod Blocks
+pub mod Choosing
+pub mod ChosenLaw
 pub mod Lists
 pub mod Relation
 pub mod SmallUnit

@@ -1,4 +1,5 @@
 // The laws of the chosen lists.
+ghost use Rattle.instr_choose.specs.ChosenLaw.{ChosenLaw};
 ghost use Rattle.instr_choose.specs.Relation.{ChoosingLaws};
 
 use memory::{call_laws, less_specified_memory_laws};
@@ -21,3 +22,8 @@ pub fn choosing_laws()
     less_specified_memory_laws();
     call_laws();
 }
+
+/// Its clause is that the code of a lowered unit does what is promised of it.
+pub(crate) fn chosen_law()
+    ensures { ChosenLaw }
+{}
