@@ -15,3 +15,8 @@ pub mod Naming
 pub mod Forming
 pub mod Chosen
 pub mod Costing
+pub mod Beginnings
+pub mod UnitBlocks
+pub mod CodeBlocks
+pub mod Tame
+pub mod Exits

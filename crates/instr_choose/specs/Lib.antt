@@ -4,3 +4,4 @@ pub mod ChosenLaw
 pub mod Lists
 pub mod Relation
 pub mod SmallUnit
+pub mod States
