@@ -20,3 +20,5 @@ pub mod UnitBlocks
 pub mod CodeBlocks
 pub mod Tame
 pub mod Exits
+pub mod Bounding
+pub mod Meets
