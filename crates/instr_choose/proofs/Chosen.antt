@@ -10,9 +10,16 @@ use Rattle.instr_choose.specs.ChosenLaw.{ChosenLaw}
 use Rattle.instr_choose.proofs.Naming.{names_kept}
 use Rattle.instr_choose.proofs.Forming.{in_form}
 use Rattle.instr_choose.proofs.Costing.{costs}
+use Rattle.instr_choose.proofs.Meets.{UnitLawsBelow}
+use Rattle.instr_choose.proofs.Starting.{keeps}
 
-pub chosen : ChosenLaw
-chosen u form shape low names = record { form = in_form u form low names; ats = names_kept u.whole; costs = costs u form low }
+pub chosen : UnitLawsBelow → ChosenLaw
+chosen laws u form shape low names = record {
+  form = in_form u form low names;
+  ats = names_kept u.whole;
+  keeps = keeps laws u (record { form = form; shape = shape; low = low });
+  costs = costs u form low;
+}
 
 pub of_blocks : ChosenLaw → (u : CodeUnit) (code : List VBlock) → code ≡ choose_blocks u.whole → IsInForm u → IsWellShaped u → u.lowered ≡ true → UnitHasNames u → Chooses u code
 of_blocks law u code e form shape low names = subst (Chooses u) (sym e) (law u form shape low names)

@@ -22,3 +22,4 @@ pub mod Tame
 pub mod Exits
 pub mod Bounding
 pub mod Meets
+pub mod Starting

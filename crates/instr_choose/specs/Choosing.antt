@@ -56,4 +56,5 @@ CostsAsUnit u code = (c : Item → ℕ) (w : ℕ) (rest : Part → ℕ → ℕ) 
 pub record Chooses (u : CodeUnit) (code : List VBlock) : Type 0 where
   pub form : IsCodeInForm code
   pub ats : HasNamesOf u code
+  pub keeps : RefinesUnit u code
   pub costs : CostsAsUnit u code
