@@ -23,3 +23,4 @@ pub mod Exits
 pub mod Bounding
 pub mod Meets
 pub mod Starting
+pub mod Lengths
