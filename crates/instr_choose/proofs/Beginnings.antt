@@ -1,7 +1,7 @@
 -- Runs of a machine that begin as those from another state do, with a turn in front or without one.
-use Rattle.std.proofs.Common.{◌≡◌, ℕ, suc, ◌+◌, List, [], ◌∷◌, ◌++◌, Option, Some, None, refl, sym, ap, ◌∙◌, subst, subst₂, append_assoc, arith}
+use Rattle.std.proofs.Common.{◌≡◌, ℕ, suc, ◌+◌, List, [], ◌∷◌, ◌++◌, Option, Some, None, sym, ap, ◌∙◌, subst₂, append_assoc, arith}
 use Rattle.std.proofs.lemmas.List.{append-nil}
-use Rattle.traces.specs.Trace.{Label, Turn, End, Seen, Move, Stand, Go, Halt, seen, before, run}
+use Rattle.traces.specs.Trace.{Label, Turn, End, Move, Go, Halt, seen, before, run}
 use Rattle.traces.specs.Steps.{Goes, Reaches}
 use Rattle.traces.specs.Machines.{marked}
 use Rattle.traces.specs.RunLaws.{RunLaws}

@@ -1,7 +1,7 @@
 -- What code does from the beginning of a block on: it goes through the list of the operations and then through that of the exit.
-use Rattle.std.proofs.Common.{◌≡◌, ℕ, zero, suc, ◌==◌, Bool, true, false, cond, List, [], ◌∷◌, ◌++◌, Option, Some, None, Result, Ok, Err, refl, sym, ap, ◌∙◌, subst}
-use Rattle.traces.specs.Trace.{Label, Turn, End, seen, Move, Stand, Go, Halt, before, run, Outside}
-use Rattle.traces.specs.Steps.{Goes, Reaches, rests, goes}
+use Rattle.std.proofs.Common.{◌≡◌, ℕ, suc, ◌==◌, Bool, true, false, cond, List, [], ◌∷◌, ◌++◌, Option, Some, None, Result, Ok, Err, refl, sym, ap, ◌∙◌}
+use Rattle.traces.specs.Trace.{Label, Turn, End, Move, Stand, before, Outside}
+use Rattle.traces.specs.Steps.{Reaches, rests, goes}
 use Rattle.traces.specs.Machines.{marked}
 use Rattle.traces.specs.RunLaws.{RunLaws}
 use Rattle.memory.specs.Memory.{Load, Store}
@@ -11,7 +11,7 @@ use Rattle.x86_meaning.specs.Outcomes.{Way, Falls, JumpsBy, JumpsTo, Repeats, Ca
 use Rattle.x86_meaning.specs.Effect.{Effect, accesses, effect}
 use Rattle.x86_meaning.specs.Step.{all_allowed, request_of}
 use Rattle.named_code.specs.Items.{Item, CodeBlock}
-use Rattle.named_code.specs.Running.{CodeState, CodePoint, AtNumber, AtOld, Inside, CodePosition, standing_at, after_call, onward, performed, by_stores, by_effect, by_loads, act, goes_on, block_of_number, block_at, Marks, begun, code_next}
+use Rattle.named_code.specs.Running.{CodeState, CodePoint, AtNumber, AtOld, Inside, CodePosition, standing_at, after_call, onward, performed, by_stores, by_loads, act, goes_on, block_of_number, block_at, Marks, begun, code_next}
 use Rattle.instr_choose.specs.Relation.{PassesList, done, more, ListEnds, here, later}
 use Rattle.instr_choose.proofs.Beginnings.{IsStep, advances, halts, Begins, same, turn, RunEnds}
 use Rattle.instr_choose.proofs.UnitBlocks.{turn_shown}

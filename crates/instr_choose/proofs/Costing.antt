@@ -1,16 +1,12 @@
 -- What the turns of the code cost.
-use Rattle.std.proofs.Common.{◌≡◌, ◌≢◌, ℕ, zero, suc, ◌+◌, ◌≤◌, ◌<◌, ◌==◌, max, Bool, true, false, cond, List, [], ◌∷◌, ◌++◌, map, length, get_or, All, Contains, Some, None, refl, sym, ap, ◌∙◌, subst, append_assoc, arith}
+use Rattle.std.proofs.Common.{◌≡◌, ℕ, zero, suc, ◌+◌, ◌≤◌, ◌<◌, ◌==◌, max, Bool, true, false, cond, List, [], ◌∷◌, ◌++◌, map, length, get_or, All, Contains, Some, None, refl, sym, ap, ◌∙◌, subst, append_assoc, arith}
 use Rattle.std.specs.List.{slice_get, AllByRecursion}
 use Rattle.std.proofs.lemmas.Bool.{eqb-true}
-use Rattle.std.proofs.lemmas.List.{map-append}
 use Rattle.std.proofs.lemmas.List.Elements.{All-from_recursion, All-append, All-map, All-contains}
 use Rattle.std.proofs.lemmas.Option.{slice_get-get_or}
-use Rattle.x86_types.specs.declared.operand.Reg.{Reg}
-use Rattle.x86_types.specs.declared.operand.Reg.TheVariants.{Eax, Ecx, Edx}
+use Rattle.x86_types.specs.declared.operand.Reg.TheVariants.{Eax}
 use Rattle.x86_types.specs.declared.operation.AluOp.{AluOp}
 use Rattle.x86_types.specs.declared.operation.AluOp.TheVariants as alu
-use Rattle.x86_types.specs.declared.operation.ShiftOp.{ShiftOp}
-use Rattle.x86_types.specs.declared.operation.Cond.{Cond}
 use Rattle.x86_types.specs.declared.width.Width.{Width}
 use Rattle.x86_types.specs.declared.width.Width.TheVariants.{One, Two, Four}
 use Rattle.x86_types.specs.declared.operation.Cond.TheVariants as condition
@@ -28,7 +24,7 @@ use Rattle.flag_ir.specs.declared.block.Exit.TheVariants as exit
 use Rattle.flag_ir.specs.declared.procedure.Proc.{Proc}
 use Rattle.flag_ir.specs.Entering.{CodeUnit}
 use Rattle.flag_ir.specs.Form.{IsExit, IsFramelessExit, IsFramelessBlock, IsInForm}
-use Rattle.flag_ir.specs.Shape.{Part, named_by, GoesTo}
+use Rattle.flag_ir.specs.Shape.{Part, named_by}
 use Rattle.flag_ir.specs.Costs.{list_cost, block_cost, allowed, BoundsTurns}
 use Rattle.named_code.specs.declared.slot.Slot.{Slot}
 use Rattle.named_code.specs.declared.slot.Slot.TheVariants.{Fixed}
@@ -36,10 +32,10 @@ use Rattle.named_code.specs.declared.named.VInstr.{VInstr}
 use Rattle.named_code.specs.declared.named.VBlock.{VBlock}
 use Rattle.named_code.specs.Items.{Item, named_item, named_block}
 use Rattle.named_code.specs.Weight.{Next, Again, course_of, left_at, most_behind, most, IsOnce, IsBounded, BoundsCode}
-use Rattle.instr_choose.specs.Lists.{slot_of, made, put, copy, alu_by, load_by, multiply_by, divide_by, store_by, width_of, is_of, by_alu, by_multiply, by_shift, by_compare, choose_calc, byte_dividend, byte_results, choose_divide, choose_store, choose_op, choose_ops}
+use Rattle.instr_choose.specs.Lists.{slot_of, made, put, copy, alu_by, load_by, multiply_by, divide_by, store_by, width_of, is_of, by_alu, choose_calc, byte_dividend, byte_results, choose_divide, choose_store, choose_op, choose_ops}
 use Rattle.instr_choose.specs.Blocks.{choose_exit, choose_block, choose_blocks}
 use Rattle.instr_choose.specs.Choosing.{marks_of, at_or_zero, items_cost, chosen_costing, CostsAsUnit}
-use Rattle.instr_choose.proofs.Naming.{code_of, code_blocks, there, among, AreNumbered, index_is, found_number, mark_is}
+use Rattle.instr_choose.proofs.Naming.{code_of, code_blocks, there, among, index_is, found_number, mark_is}
 
 -- ---- behind each instruction of an operation the next one follows
 abbrev IsPlainInstr : VInstr → Type 0

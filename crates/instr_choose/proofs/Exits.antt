@@ -1,10 +1,9 @@
 -- Each exit is met by its list.
-use Rattle.std.proofs.Common.{◌≡◌, ◌≢◌, ℕ, suc, ◌<◌, ◌≤◌, ◌==◌, ◌&&◌, Bool, true, false, not, cond, List, [], ◌∷◌, ◌++◌, map, find, length, Option, Some, None, Result, Ok, Err, refl, sym, ap, ◌∙◌, subst, arith}
+use Rattle.std.proofs.Common.{◌≡◌, ◌≢◌, ℕ, ◌≤◌, ◌==◌, ◌&&◌, Bool, true, false, not, cond, List, [], ◌∷◌, ◌++◌, map, find, length, Option, Some, None, Ok, Err, refl, sym, ap, ◌∙◌, subst, arith}
 use Rattle.std.proofs.lemmas.Bool.{le-ltb}
-use Rattle.x86_values.specs.declared.word.Word.{Word}
 use Rattle.x86_values.specs.Words.{word_of, known, padded}
-use Rattle.x86_values.specs.Sizes.{no_word, number}
-use Rattle.x86_values.specs.Sums.{difference, sub}
+use Rattle.x86_values.specs.Sizes.{no_word}
+use Rattle.x86_values.specs.Sums.{sub}
 use Rattle.x86_values.specs.Conditions.{condition}
 use Rattle.x86_values.specs.LessSpecified.{WordLessSpecified}
 use Rattle.x86_types.specs.declared.operand.Reg.TheVariants.{Eax}
@@ -13,7 +12,7 @@ use Rattle.x86_types.specs.declared.operation.AluOp.TheVariants as alu
 use Rattle.x86_types.specs.declared.operation.Cond.TheVariants as condition_of
 use Rattle.x86_types.specs.declared.width.Width.TheVariants.{Four}
 use Rattle.x86_types.specs.declared.instr.Instr.TheVariants as instr
-use Rattle.traces.specs.Trace.{Label, End, MemoryFault, Outside, Unspecified, Stopped, Move, Stand, Go, Halt, before}
+use Rattle.traces.specs.Trace.{MemoryFault, Outside, Unspecified, Stopped, Move, Stand, Go, Halt, before}
 use Rattle.traces.specs.Agree.{outside}
 use Rattle.traces.specs.Steps.{Reaches, rests}
 use Rattle.traces.specs.RunLaws.{RunLaws}
@@ -24,7 +23,6 @@ use Rattle.x86_meaning.specs.Transfers.{transfer}
 use Rattle.x86_meaning.specs.Computing.{compute}
 use Rattle.flag_ir.specs.declared.variable.Term.{Term}
 use Rattle.flag_ir.specs.declared.variable.Term.TheVariants as term
-use Rattle.flag_ir.specs.declared.block.Block.{Block}
 use Rattle.flag_ir.specs.declared.block.Exit.{Exit}
 use Rattle.flag_ir.specs.declared.block.Exit.TheVariants as exit
 use Rattle.flag_ir.specs.declared.procedure.Proc.{Proc}
@@ -34,8 +32,7 @@ use Rattle.flag_ir.specs.Entering.{CodeUnit, Onward, before_block, blocks_of, in
 use Rattle.flag_ir.specs.UnitRun.{Before}
 use Rattle.flag_ir.specs.Form.{IsTerm, IsExit, IsFramelessExit}
 use Rattle.named_code.specs.declared.slot.Slot.TheVariants.{Fixed}
-use Rattle.named_code.specs.declared.named.VInstr.{VInstr}
-use Rattle.named_code.specs.Items.{Item, CodeBlock, named_item}
+use Rattle.named_code.specs.Items.{Item, named_item}
 use Rattle.named_code.specs.Running.{CodeState, CodePoint, AtNumber, AtOld, Inside, CodePosition, standing_at, lost, names_alone, by_loads, act, Marks}
 use Rattle.instr_choose.specs.Lists.{made, put, alu_by, load_by}
 use Rattle.instr_choose.specs.Blocks.{choose_exit}
@@ -43,7 +40,7 @@ use Rattle.instr_choose.specs.Relation.{place_of_var, IsBelow, PassesList, done,
 use Rattle.instr_choose.specs.States.{LeadsTo, HasNoZero}
 use Rattle.instr_choose.proofs.Accesses.{load_is, after_load}
 use Rattle.instr_choose.proofs.Items.{with_place, with_flags, term_at, put_is, alu_is}
-use Rattle.instr_choose.proofs.Below.{here, scratch, flagged, apart_scratch}
+use Rattle.instr_choose.proofs.Below.{here, scratch, flagged}
 use Rattle.instr_choose.proofs.Naming.{code_blocks, number_missing, address_missing}
 use Rattle.instr_choose.proofs.Choosing.{LawsBelow, value_below}
 use Rattle.instr_choose.proofs.Comparing.{not_zero_says}

@@ -1,10 +1,10 @@
 -- The chosen instructions are in form.
-use Rattle.std.proofs.Common.{◌≡◌, ℕ, ◌<◌, Bool, true, false, cond, List, [], ◌∷◌, ◌++◌, map, length, get_or, All, Contains, refl, sym, ap, ◌∙◌, subst, arith}
+use Rattle.std.proofs.Common.{◌≡◌, ℕ, ◌<◌, Bool, true, false, cond, List, [], ◌∷◌, ◌++◌, map, length, get_or, All, Contains, refl, sym, ap, ◌∙◌, arith}
 use Rattle.std.specs.List.{AllByRecursion}
 use Rattle.std.proofs.lemmas.List.Elements.{All-from_recursion, All-append, All-head, All-tail, All-map, All-contains}
 use Rattle.std.proofs.lemmas.Option.{slice_get-get_or}
 use Rattle.x86_types.specs.declared.operand.Reg.{Reg}
-use Rattle.x86_types.specs.declared.operand.Reg.TheVariants.{Eax, Ecx, Edx, Ebx, Esp, Ebp, Esi, Edi}
+use Rattle.x86_types.specs.declared.operand.Reg.TheVariants.{Eax, Ecx, Edx, Ebx}
 use Rattle.x86_types.specs.declared.operand.Rm.TheVariants as rm
 use Rattle.x86_types.specs.declared.operation.AluOp.{AluOp}
 use Rattle.x86_types.specs.declared.operation.AluOp.TheVariants as alu
@@ -32,7 +32,7 @@ use Rattle.flag_ir.specs.declared.block.Exit.{Exit}
 use Rattle.flag_ir.specs.declared.block.Exit.TheVariants as exit
 use Rattle.flag_ir.specs.declared.procedure.Proc.{Proc}
 use Rattle.flag_ir.specs.Entering.{CodeUnit}
-use Rattle.flag_ir.specs.Form.{IsVar, IsTerm, IsOp, IsExit, IsFrameless, IsFramelessExit, IsFramelessBlock, IsInForm}
+use Rattle.flag_ir.specs.Form.{IsVar, IsTerm, IsOp, IsExit, IsFramelessExit, IsFramelessBlock, IsInForm}
 use Rattle.named_code.specs.declared.slot.Slot.{Slot}
 use Rattle.named_code.specs.declared.slot.Slot.TheVariants.{Fixed, Name}
 use Rattle.named_code.specs.declared.named.VInstr.{VInstr}
@@ -202,10 +202,31 @@ module _ (code : List VBlock) where
       several (choose_divide Two signed q r high low by)
       (put_form (Fixed Ecx) by ecx l, (put_form (Fixed Edx) high edx j, (put_form (Fixed Eax) low eax k, (divide_form signed Two (Fixed Ecx) ecx, (extend_form Two (slot_of q) (Fixed Eax) h eax, (extend_form Two (slot_of r) (Fixed Edx) i edx, tt))))))
   divide_list_form One signed q r high low by h i j k l =
-      several (choose_divide One signed q r high low by)
-      (put_form (Fixed Ecx) by ecx l, (put_form (Fixed Edx) high edx j, (extend_form One (Fixed Eax) (Fixed Edx) eax edx, (shift_form shiftop.Shl (count.Imm 8) (Fixed Eax) eax,
-      (put_form (Fixed Edx) low edx k, (byte_form (Fixed Eax) (Fixed Edx) eax edx, (divide_form signed One (Fixed Ecx) ecx, (extend_form One (slot_of q) (Fixed Eax) h eax,
-      (extend_form Two (Fixed Eax) (Fixed Eax) eax eax, (shift_form shiftop.Shr (count.Imm 8) (Fixed Eax) eax, (copy_form (slot_of r) (Fixed Eax) i eax, tt)))))))))))
+      several (choose_divide One signed q r high low by) (
+        put_form (Fixed Ecx) by ecx l,
+        (
+          put_form (Fixed Edx) high edx j,
+          (
+            extend_form One (Fixed Eax) (Fixed Edx) eax edx,
+            (
+              shift_form shiftop.Shl (count.Imm 8) (Fixed Eax) eax,
+              (
+                put_form (Fixed Edx) low edx k,
+                (
+                  byte_form (Fixed Eax) (Fixed Edx) eax edx,
+                  (
+                    divide_form signed One (Fixed Ecx) ecx,
+                    (
+                      extend_form One (slot_of q) (Fixed Eax) h eax,
+                      (extend_form Two (Fixed Eax) (Fixed Eax) eax eax, (shift_form shiftop.Shr (count.Imm 8) (Fixed Eax) eax, (copy_form (slot_of r) (Fixed Eax) i eax, tt))),
+                    ),
+                  ),
+                ),
+              ),
+            ),
+          ),
+        ),
+      )
 
   pick_form : (to : Var) (test x y : Term) → IsSlot (slot_of to) → IsTermSlot test → IsTermSlot x → IsTermSlot y → AreFormed (choose_pick to test x y)
   pick_form to test x y h i j k =
@@ -218,9 +239,16 @@ module _ (code : List VBlock) where
 
   system_form : AreFormed choose_system
   system_form =
-      several choose_system
-      (copy_form (Fixed Eax) (Name 0) eax (register_name 0 (omega arith)), (copy_form (Fixed Ebx) (Name 3) ebx (register_name 3 (omega arith)), (copy_form (Fixed Ecx) (Name 1) ecx (register_name 1 (omega arith)),
-      (copy_form (Fixed Edx) (Name 2) edx (register_name 2 (omega arith)), (call_form, (copy_form (Name 0) (Fixed Eax) (register_name 0 (omega arith)) eax, tt))))))
+      several choose_system (
+        copy_form (Fixed Eax) (Name 0) eax (register_name 0 (omega arith)),
+        (
+          copy_form (Fixed Ebx) (Name 3) ebx (register_name 3 (omega arith)),
+          (
+            copy_form (Fixed Ecx) (Name 1) ecx (register_name 1 (omega arith)),
+            (copy_form (Fixed Edx) (Name 2) edx (register_name 2 (omega arith)), (call_form, (copy_form (Name 0) (Fixed Eax) (register_name 0 (omega arith)) eax, tt))),
+          ),
+        ),
+      )
 
   op_form : (o : Op) → IsOp 0 o → OpHasNames o → AreFormed (choose_op o)
   unfolding choose_op
@@ -306,6 +334,6 @@ in_form u form low names = All-map (IsBlockInForm (choose_blocks u.whole)) choos
         let first = begins b.exit frameless.exit in
         record {
           instrs = All-append (IsInstrInForm (choose_blocks u.whole)) (choose_ops b.ops) (choose_exit b.exit) (ops_form (choose_blocks u.whole) b.ops (form.whole.ops b c) named.ops)
-          (exit_form u.whole form.whole.numbers u.procs b.exit frameless.exit (form.whole.exits b c) named.exit);
+              (exit_form u.whole form.whole.numbers u.procs b.exit frameless.exit (form.whole.exits b c) named.exit);
           begins = λ at e. never_empty (choose_ops b.ops) (choose_exit b.exit) first.0 first.1 first.2 e;
         }

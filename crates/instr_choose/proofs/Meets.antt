@@ -1,12 +1,11 @@
 -- A lowered unit and its code, side by side: they meet at the beginning of each block.
-use Rattle.std.proofs.Common.{◌≡◌, ◌≢◌, ◌⊎◌, ℕ, suc, ◌+◌, ◌==◌, List, [], ◌∷◌, ◌++◌, map, length, Option, Some, None, Result, Ok, Err, refl, sym, ap, ◌∙◌, subst, subst₂, append_assoc, inl, inr, true}
+use Rattle.std.proofs.Common.{◌≡◌, ◌≢◌, ◌⊎◌, ℕ, suc, ◌+◌, List, [], ◌∷◌, ◌++◌, map, length, Option, Some, None, Result, Ok, Err, refl, sym, ap, ◌∙◌, subst, subst₂, append_assoc, inl, inr, true}
 use Rattle.std.specs.List.{slice_get}
 use Rattle.std.specs.Option.{option_map}
 use Rattle.std.proofs.lemmas.List.{append-nil, map-append}
 use Rattle.std.proofs.lemmas.List.Elements.{All-contains}
-use Rattle.std.proofs.lemmas.Option.{slice_get_within}
 use Rattle.traces.specs.Trace.{Label, End, Exited, MemoryFault, DivideFault, Outside, OtherCall, Unspecified, Guard, Stopped, Seen, seen, Move, Stand, Go, before, run}
-use Rattle.traces.specs.Agree.{end_as, outside, outside_run}
+use Rattle.traces.specs.Agree.{end_as, outside}
 use Rattle.traces.specs.Machines.{outside_machine}
 use Rattle.traces.specs.Steps.{Goes, Reaches}
 use Rattle.traces.specs.Simulation.{Paired}
@@ -27,17 +26,16 @@ use Rattle.flag_ir.specs.UnitLaws.{UnitLaws}
 use Rattle.flag_ir.specs.Form.{IsVar, IsFramelessBlock, IsInForm}
 use Rattle.flag_ir.specs.Shape.{IsWellShaped}
 use Rattle.private_memory.specs.PrivateAreaLaws.{PrivateAccessLaws}
-use Rattle.named_code.specs.Items.{Item, CodeBlock, named_item}
-use Rattle.named_code.specs.Running.{CodeState, CodePoint, AtNumber, AtOld, Inside, CodePosition, standing_at, code_next}
+use Rattle.named_code.specs.Items.{Item, named_item}
+use Rattle.named_code.specs.Running.{CodeState, CodePoint, AtNumber, AtOld, Inside, CodePosition, standing_at}
 use Rattle.named_code.specs.CodeRunLaws.{CodeRunLaws}
 use Rattle.x86_values.specs.LessSpecified.{WordLessSpecified}
-use Rattle.instr_choose.specs.Lists.{choose_op, choose_ops}
+use Rattle.instr_choose.specs.Lists.{choose_ops}
 use Rattle.instr_choose.specs.Blocks.{choose_exit}
-use Rattle.instr_choose.specs.Relation.{place_of_var, IsBelow, PassesTo, Stops, AreMetBy, ChoosingLaws}
+use Rattle.instr_choose.specs.Relation.{place_of_var, IsBelow, AreMetBy, ChoosingLaws}
 use Rattle.instr_choose.specs.Choosing.{marks_of}
 use Rattle.instr_choose.specs.States.{LeadsTo, HasNoZero, ChosenPair}
 use Rattle.instr_choose.proofs.Below.{nothing}
-use Rattle.instr_choose.proofs.Behind.{fails_first}
 use Rattle.instr_choose.proofs.Choosing.{LawsBelow}
 use Rattle.instr_choose.proofs.Naming.{code_of, code_blocks, among, number_found, address_found, address_missing, mark_is}
 use Rattle.instr_choose.proofs.Forming.{begins}
@@ -45,7 +43,7 @@ use Rattle.instr_choose.proofs.Beginnings.{IsStep, Begins, RunEnds, RunShows, st
 use Rattle.instr_choose.proofs.UnitBlocks.{turn_of, turn_shown, block_goes, block_leaves, block_ends}
 use Rattle.instr_choose.proofs.CodeBlocks.{act_steps, inside_is, passes_reach, fails_ends, found, IsJump, no_block, block_begins}
 use Rattle.instr_choose.proofs.Tame.{IsTame, tame_all}
-use Rattle.instr_choose.proofs.Exits.{step, items_at, GoesOn, ExitMeets, exit_meets}
+use Rattle.instr_choose.proofs.Exits.{step, items_at, ExitMeets, exit_meets}
 
 pub record UnitLawsBelow : Type 0 where
   pub below : LawsBelow

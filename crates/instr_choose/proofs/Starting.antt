@@ -1,5 +1,5 @@
 -- A lowered unit and its code start side by side, so that the code does by turns what the unit does.
-use Rattle.std.proofs.Common.{◌≡◌, ℕ, ◌+◌, ◌-◌, ◌<◌, ◌≤◌, ◌==◌, Bool, true, false, cond, ltb, List, [], Option, Some, None, refl, sym, ap, ◌∙◌, subst, subst₂, arith}
+use Rattle.std.proofs.Common.{◌≡◌, ℕ, ◌+◌, ◌-◌, ◌≤◌, ◌==◌, true, false, cond, List, [], Option, Some, None, refl, sym, ap, ◌∙◌, subst, arith}
 use Rattle.std.proofs.lemmas.Bool.{le-ltb}
 use Rattle.outside.specs.Environment.{Environment, IsEnvironment}
 use Rattle.x86_values.specs.Words.{IsWord, word_of}
@@ -19,9 +19,8 @@ use Rattle.flag_ir.specs.Entering.{CodeUnit, before_block, index_at}
 use Rattle.flag_ir.specs.UnitRun.{Point, Before, Over, state_at, next, entered, first_storage, first_state, unit_run}
 use Rattle.flag_ir.specs.Form.{IsVar}
 use Rattle.named_code.specs.Items.{Item}
-use Rattle.named_code.specs.Running.{CodeState, AtOld}
+use Rattle.named_code.specs.Running.{AtOld}
 use Rattle.named_code.specs.CodeRun.{first_register, first_places, first_state as first_code_state, blocks_run}
-use Rattle.instr_choose.specs.Lists.{name_of}
 use Rattle.instr_choose.specs.Relation.{place_of_var, IsBelow}
 use Rattle.instr_choose.specs.Blocks.{choose_blocks}
 use Rattle.instr_choose.specs.Choosing.{marks_of, chosen_costing, RefinesUnit}

@@ -1,5 +1,5 @@
 -- What each operation keeps: that nothing is mapped at address 0, and that its own end is no stop and no guard event.
-use Rattle.std.proofs.Common.{◌≡◌, ℕ, Bool, true, false, cond, List, [], ◌∷◌, take, All, Option, Some, None, Result, Ok, Err, refl, ◌∙◌, subst}
+use Rattle.std.proofs.Common.{◌≡◌, ℕ, Bool, true, false, cond, List, [], ◌∷◌, take, All, Option, Some, None, Result, Ok, Err, refl, ◌∙◌}
 use Rattle.std.proofs.lemmas.List.Elements.{All-head, All-tail}
 use Rattle.x86_values.specs.declared.byte.Byte.{Byte}
 use Rattle.x86_values.specs.declared.word.Word.{Word}
@@ -11,14 +11,14 @@ use Rattle.traces.specs.Trace.{End, Exited, MemoryFault, DivideFault, Outside, O
 use Rattle.traces.specs.Agree.{outside}
 use Rattle.memory.specs.Memory.{Memory, Stored, allows_all, put_all, store_all, Load, Store}
 use Rattle.memory.specs.MemoryLaws.{MemoryLaws}
-use Rattle.memory.specs.SystemCall.{Called, Ends, Gives, system_call}
+use Rattle.memory.specs.SystemCall.{Called, Ends, Gives}
 use Rattle.memory.specs.CallLaws.{CallLaws, is_own_end, IsPlainCall}
 use Rattle.flag_ir.specs.declared.variable.Var.{Var}
 use Rattle.flag_ir.specs.declared.variable.Var.TheVariants as var
 use Rattle.flag_ir.specs.declared.operation.Op.{Op}
 use Rattle.flag_ir.specs.declared.operation.Op.TheVariants as op
 use Rattle.flag_ir.specs.Storage.{Storage, put_var, term_in}
-use Rattle.flag_ir.specs.Operations.{and_then, needed, load, store, with_memory, request_in, called, call_in, divided_into, perform, performs}
+use Rattle.flag_ir.specs.Operations.{and_then, needed, with_memory, request_in, called, call_in, divided_into, perform, performs}
 use Rattle.flag_ir.specs.Form.{IsFrameless}
 use Rattle.instr_choose.specs.States.{HasNoZero}
 

@@ -1,9 +1,9 @@
 -- What a unit does from the beginning of a block on: it goes through the operations and leaves by the exit.
-use Rattle.std.proofs.Common.{◌≡◌, ◌≢◌, ◌⊎◌, ℕ, suc, ◌+◌, ◌<◌, ◌≤◌, ◌==◌, Bool, true, false, cond, List, [], ◌∷◌, ◌++◌, length, Some, None, Result, Ok, Err, refl, sym, ap, ◌∙◌, subst, subst₂, inl, inr}
+use Rattle.std.proofs.Common.{◌≡◌, ◌≢◌, ◌⊎◌, ℕ, suc, ◌<◌, ◌≤◌, ◌==◌, Bool, true, false, cond, List, [], ◌∷◌, ◌++◌, length, Some, None, Result, Ok, Err, refl, sym, ap, ◌∙◌, subst, inl, inr}
 use Rattle.std.specs.List.{slice_get}
 use Rattle.std.proofs.lemmas.Bool.{eqb-true, eq-eqb}
 use Rattle.std.proofs.lemmas.List.{append-nil}
-use Rattle.traces.specs.Trace.{Label, Turn, End, seen, Stand, Go, Halt, run}
+use Rattle.traces.specs.Trace.{Label, Turn, End, seen, Stand, Halt, run}
 use Rattle.traces.specs.Steps.{Goes, Reaches, EndsFrom}
 use Rattle.traces.specs.Machines.{marked}
 use Rattle.traces.specs.RunLaws.{RunLaws}

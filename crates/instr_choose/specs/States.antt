@@ -5,8 +5,8 @@ use Rattle.memory.specs.Memory.{Memory, kind_of}
 use Rattle.flag_ir.specs.declared.block.Block.{Block}
 use Rattle.flag_ir.specs.Storage.{Storage}
 use Rattle.flag_ir.specs.Entering.{CodeUnit, index_of_number, index_at}
-use Rattle.flag_ir.specs.UnitRun.{Point, Before, Within, Over}
-use Rattle.named_code.specs.Running.{CodeState, CodePoint, AtNumber, AtOld, Inside}
+use Rattle.flag_ir.specs.UnitRun.{Point, Before, Over}
+use Rattle.named_code.specs.Running.{CodeState, CodePoint, AtNumber, AtOld}
 use Rattle.instr_choose.specs.Relation.{IsBelow}
 
 -- the code is at a jump to the block before which the unit stands, or at its first jump where that finds no block
