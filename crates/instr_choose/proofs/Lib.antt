@@ -24,3 +24,4 @@ pub mod Bounding
 pub mod Meets
 pub mod Starting
 pub mod Lengths
+pub mod QuietItems
