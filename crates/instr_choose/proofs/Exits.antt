@@ -48,15 +48,15 @@ use Rattle.instr_choose.proofs.Beginnings.{RunEnds, reach_ends}
 use Rattle.instr_choose.proofs.CodeBlocks.{machine, within, inside_is, passes_reach, no_block}
 
 -- ---- the instructions of exits
-jump_is : (n : ℕ) (rest : List Item) (s : CodeState) → act (named_item (made (instr.Jmp n) [])) rest s ≡ Go [] (standing_at (AtNumber n) s)
+pub jump_is : (n : ℕ) (rest : List Item) (s : CodeState) → act (named_item (made (instr.Jmp n) [])) rest s ≡ Go [] (standing_at (AtNumber n) s)
 unfolding act accesses effect transfer compute
 jump_is n rest s = refl
 
-nothing_is : (rest : List Item) (s : CodeState) → act (named_item (made instr.Nop [])) rest s ≡ Go [] (standing_at (Inside rest) s)
+pub nothing_is : (rest : List Item) (s : CodeState) → act (named_item (made instr.Nop [])) rest s ≡ Go [] (standing_at (Inside rest) s)
 unfolding act accesses effect transfer compute
 nothing_is rest s = refl
 
-abbrev after_branch : Option Bool → ℕ → List Item → CodeState → Move CodePosition
+abbrev pub after_branch : Option Bool → ℕ → List Item → CodeState → Move CodePosition
 after_branch None n rest s = Halt [] Unspecified
 after_branch (Some true) n rest s = Go [] (standing_at (AtNumber n) s)
 after_branch (Some false) n rest s = Go [] (standing_at (Inside rest) s)
@@ -66,11 +66,11 @@ branched None n x rest s = refl
 branched (Some true) n x rest s = refl
 branched (Some false) n x rest s = refl
 
-branch_is : (n : ℕ) (rest : List Item) (s : CodeState) → act (named_item (made (instr.Jcc condition_of.Ne n) [])) rest s ≡ after_branch (condition condition_of.Ne s.cpu.flags) n rest s
+pub branch_is : (n : ℕ) (rest : List Item) (s : CodeState) → act (named_item (made (instr.Jcc condition_of.Ne n) [])) rest s ≡ after_branch (condition condition_of.Ne s.cpu.flags) n rest s
 unfolding act accesses effect transfer compute
 branch_is n rest s = branched (condition condition_of.Ne s.cpu.flags) n (named_item (made (instr.Jcc condition_of.Ne n) [])) rest s
 
-abbrev after_old : Option ℕ → CodeState → Move CodePosition
+abbrev pub after_old : Option ℕ → CodeState → Move CodePosition
 after_old None s = Halt [] Unspecified
 after_old (Some a) s = Go [] (standing_at (AtOld a) (lost s))
 
@@ -78,12 +78,12 @@ led : (o : Option ℕ) (x : Item) (rest : List Item) (s : CodeState) → by_load
 led None x rest s = refl
 led (Some a) x rest s = refl
 
-old_is : (rest : List Item) (s : CodeState) → act (named_item (made (instr.JmpTo (rm.Reg Eax)) (Fixed Eax ∷ []))) rest s ≡ after_old (known (s.cpu.regs 0)) s
+pub old_is : (rest : List Item) (s : CodeState) → act (named_item (made (instr.JmpTo (rm.Reg Eax)) (Fixed Eax ∷ []))) rest s ≡ after_old (known (s.cpu.regs 0)) s
 unfolding act accesses effect transfer compute
 old_is rest s = led (known (s.cpu.regs 0)) (named_item (made (instr.JmpTo (rm.Reg Eax)) (Fixed Eax ∷ []))) rest s
 
 -- ---- names stay at a jump to an old address
-lost_below : (u : Storage) (s : CodeState) → IsBelow u s → IsBelow u (lost s)
+pub lost_below : (u : Storage) (s : CodeState) → IsBelow u s → IsBelow u (lost s)
 lost_below u s h = record {
   vars = λ v i. subst (WordLessSpecified (var_in v u)) (sym (stays (place_of_var v) (omega arith))) (h.vars v i);
   memory = h.memory;
@@ -179,35 +179,35 @@ module _ (laws : LawsBelow) (runs : RunLaws CodePosition) (unit : CodeUnit) (mar
     go_meets n = by_number n u _ _ 0 s (rests _) (jumps n [] s) below unmapped
 
     -- a term in EAX
-    abbrev with_term : Term → CodeState
+    abbrev pub with_term : Term → CodeState
     with_term t = with_place 0 (term_at t s) s
 
     term_there : (t : Term) → (with_term t).cpu.regs 0 ≡ term_at t s
     term_there t = here 0 (term_at t s) s.cpu.regs
 
-    term_known : (t : Term) (n : ℕ) → IsTerm 0 t → known (term_in t u) ≡ Some n → known ((with_term t).cpu.regs 0) ≡ Some n
+    pub term_known : (t : Term) (n : ℕ) → IsTerm 0 t → known (term_in t u) ≡ Some n → known ((with_term t).cpu.regs 0) ≡ Some n
     term_known t n i e = ap known (term_there t) ∙ laws.less.same_word (term_in t u) (term_at t s) n (value_below laws t u s i below) e
 
     module _ (test : Term) (m n : ℕ) (i : IsTerm 0 test) where
-      abbrev compared : CodeState
+      abbrev pub compared : CodeState
       compared = with_flags (sub 4 ((with_term test).cpu.regs 0) (word_of 0) (Some false)).flags (with_term test)
 
-      compared_below : IsBelow u compared
+      pub compared_below : IsBelow u compared
       compared_below = flagged u (with_term test) (sub 4 ((with_term test).cpu.regs 0) (word_of 0) (Some false)).flags (scratch u s 0 (term_at test s) (omega arith) below)
 
-      abbrev tests : List Item
+      abbrev pub tests : List Item
       tests = map named_item (put (Fixed Eax) test ∷ alu_by alu.Cmp (Fixed Eax) (term.Word 0) ∷ [])
 
-      abbrev branches : List Item
+      abbrev pub branches : List Item
       branches = map named_item (made (instr.Jcc condition_of.Ne m) [] ∷ made (instr.Jmp n) [] ∷ [])
 
-      passes : PassesList tests s [] compared
+      pub passes : PassesList tests s [] compared
       passes = more _ _ s [] (with_term test) [] compared (put_is (Fixed Eax) test s) (more _ [] (with_term test) [] compared [] compared (alu_is alu.Cmp (Fixed Eax) (term.Word 0) (with_term test) tt) (done compared))
 
       reached : (k : ℕ) × Reaches step (items_at (tests ++ branches) s) k [] (items_at branches compared)
       reached = passes_reach runs marks (code_blocks unit.whole) tests branches s compared [] passes
 
-      taken : (v : ℕ) → known (term_in test u) ≡ Some v → condition condition_of.Ne compared.cpu.flags ≡ Some (not (v == 0))
+      pub taken : (v : ℕ) → known (term_in test u) ≡ Some v → condition condition_of.Ne compared.cpu.flags ≡ Some (not (v == 0))
       taken v e =
           not_zero_says laws.less laws.words (term_in test u) ((with_term test).cpu.regs 0) v
           (subst (WordLessSpecified (term_in test u)) (sym (term_there test)) (value_below laws test u s i below)) e
@@ -224,7 +224,7 @@ module _ (laws : LawsBelow) (runs : RunLaws CodePosition) (unit : CodeUnit) (mar
       branch_meets v e = by_zero (v == 0) (branches_by v e)
 
     module _ (to : Term) (i : IsTerm 0 to) where
-      abbrev leaves : List Item
+      abbrev pub leaves : List Item
       leaves = map named_item (made (instr.JmpTo (rm.Reg Eax)) (Fixed Eax ∷ []) ∷ [])
 
       arrived : (k : ℕ) × Reaches step (items_at (named_item (put (Fixed Eax) to) ∷ leaves) s) k [] (items_at leaves (with_term to))
@@ -236,17 +236,18 @@ module _ (laws : LawsBelow) (runs : RunLaws CodePosition) (unit : CodeUnit) (mar
           (inside_is runs marks (code_blocks unit.whole) leaves (with_term to) ∙ (old_is [] (with_term to) ∙ ap (λ o. after_old o (with_term to)) (term_known to a i e)))
           (lost_below u (with_term to) (scratch u s 0 (term_at to s) (omega arith) below)) unmapped
 
+    pub zero_refused : allows_all Load s.memory 0 4 ≡ false
+    zero_refused = sym (laws.memory.allows Load u.memory s.memory 0 4 below.memory) ∙ refused u.memory unmapped
+
+    pub fault_is : act (named_item (load_by Four (Fixed Eax) (term.Word 0))) [] s ≡ Halt [] MemoryFault
+    fault_is = load_is Four (Fixed Eax) (term.Word 0) s 0 (laws.words.known_word 0 (omega arith), omega arith) [] ∙ ap (λ b. after_load b 0 (padded (bytes_at s.memory 0 4)) [] s) zero_refused
+
     fault_ends : RunEnds step (items_at (map named_item (choose_exit exit.Fault)) s) [] MemoryFault
     unfolding choose_exit
-    fault_ends =
-        let none : allows_all Load s.memory 0 4 ≡ false = sym (laws.memory.allows Load u.memory s.memory 0 4 below.memory) ∙ refused u.memory unmapped in
-        record {
-          steps = 0;
-          ends =
-              runs.run_halt step _ [] MemoryFault
-              (inside_is runs marks (code_blocks unit.whole) (map named_item (load_by Four (Fixed Eax) (term.Word 0) ∷ [])) s
-              ∙ (load_is Four (Fixed Eax) (term.Word 0) s 0 (laws.words.known_word 0 (omega arith), omega arith) [] ∙ ap (λ b. after_load b 0 (padded (bytes_at s.memory 0 4)) [] s) none)) 0;
-        }
+    fault_ends = record {
+      steps = 0;
+      ends = runs.run_halt step _ [] MemoryFault (inside_is runs marks (code_blocks unit.whole) (map named_item (load_by Four (Fixed Eax) (term.Word 0) ∷ [])) s ∙ fault_is) 0;
+    }
 
     stop_ends : RunEnds step (items_at (map named_item (choose_exit exit.Stop)) s) [] Outside
     unfolding choose_exit

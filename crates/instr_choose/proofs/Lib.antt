@@ -25,3 +25,6 @@ pub mod Meets
 pub mod Starting
 pub mod Lengths
 pub mod QuietItems
+pub mod SafeLists
+pub mod WatchedItems
+pub mod ApartRuns

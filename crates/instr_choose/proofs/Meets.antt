@@ -66,10 +66,10 @@ pub record IsAsked (u : CodeUnit) : Type 0 where
   pub low : u.lowered ≡ true
 
 -- ---- ends
-abbrev IsOr : End → Type 0
+abbrev pub IsOr : End → Type 0
 IsOr e = (e ≡ Unspecified) ⊎ (e ≢ Unspecified)
 
-unspecified_or : (e : End) → IsOr e
+pub unspecified_or : (e : End) → IsOr e
 unspecified_or (Exited n) = inr (λ h. absurd cc)
 unspecified_or MemoryFault = inr (λ h. absurd cc)
 unspecified_or DivideFault = inr (λ h. absurd cc)
@@ -80,7 +80,7 @@ unspecified_or (Guard k a) = inr (λ h. absurd cc)
 unspecified_or (Stopped a) = inr (λ h. absurd cc)
 
 -- a block begins with unspecified temporaries
-fresh_below : (u : Storage) (s : CodeState) → IsBelow u s → IsBelow (fresh u) s
+pub fresh_below : (u : Storage) (s : CodeState) → IsBelow u s → IsBelow (fresh u) s
 fresh_below u s h = record { vars = each; memory = h.memory; left = h.left; environment = h.environment; frames = h.frames }
   where
     each : (v : Var) → IsVar 0 v → WordLessSpecified (var_in v (fresh u)) (s.cpu.regs (place_of_var v))

@@ -58,10 +58,6 @@ unfolding accesses transfer
 byte_quiet to from s = refl
 
 -- whatever is read of registers
-reads_quiet : (b : Bool) (p q : ℕ) (n : Option ℕ) → accesses_of Load (cond b (constant 4 0 ∷ constant 4 0 ∷ []) (operand 4 (InRegister p 0) ∷ operand 4 (InRegister q 0) ∷ [])) ≡ []
-reads_quiet true p q n = refl
-reads_quiet false p q n = refl
-
 both_quiet : (b : Bool) (o : AluOp) (p q : ℕ) → (accesses_of Load (cond b (constant 4 0 ∷ constant 4 0 ∷ []) (operand 4 (InRegister p 0) ∷ operand 4 (InRegister q 0) ∷ [])) ++ accesses_of Store (alu_writes o 4 (InRegister p 0))) ++ [] ≡ []
 both_quiet true alu.Add p q = refl
 both_quiet true alu.Or p q = refl

@@ -33,7 +33,7 @@ use Rattle.instr_choose.proofs.Exits.{jump_to_block}
 use Rattle.instr_choose.proofs.Meets.{UnitLawsBelow, IsAsked, source, target, left, right, Both, meets}
 
 -- ---- where the unit stands first
-abbrev point_from : Option ℕ → ℕ → Point
+abbrev pub point_from : Option ℕ → ℕ → Point
 point_from None entry = Over (Stopped entry)
 point_from (Some k) entry = Before k
 
@@ -49,7 +49,7 @@ first_closed : (m : Memory) (esp0 : ℕ) (stack : List ℕ) (env : Environment) 
 unfolding first_storage
 first_closed m esp0 stack env = refl
 
-first_is : (u : CodeUnit) → u.procs ≡ [] → (m : Memory) (entry esp0 : ℕ) (stack : List ℕ) (env : Environment) → first_state u m entry esp0 stack env ≡ state_at 0 (point_from (index_at entry u.whole) entry) (first_storage m esp0 stack env)
+pub first_is : (u : CodeUnit) → u.procs ≡ [] → (m : Memory) (entry esp0 : ℕ) (stack : List ℕ) (env : Environment) → first_state u m entry esp0 stack env ≡ state_at 0 (point_from (index_at entry u.whole) entry) (first_storage m esp0 stack env)
 unfolding first_state
 first_is u alone m entry esp0 stack env =
     let x = first_storage m esp0 stack env in
@@ -74,7 +74,7 @@ module _ (laws : UnitLawsBelow) where
   first_vars m esp0 stack env (var.Temp n) i = nothing _
   first_vars m esp0 stack env (var.Local n) i = absurd (omega (arith, i))
 
-  first_below : (m : Memory) (esp0 : ℕ) (stack : List ℕ) (env : Environment) → HasBytes m → IsStart esp0 stack → IsEnvironment env → IsBelow (first_storage m esp0 stack env) (first_code_state (with_stack esp0 stack m) esp0 env)
+  pub first_below : (m : Memory) (esp0 : ℕ) (stack : List ℕ) (env : Environment) → HasBytes m → IsStart esp0 stack → IsEnvironment env → IsBelow (first_storage m esp0 stack env) (first_code_state (with_stack esp0 stack m) esp0 env)
   unfolding first_storage
   first_below m esp0 stack env bytes start environment = record {
     vars = first_vars m esp0 stack env;
@@ -84,7 +84,7 @@ module _ (laws : UnitLawsBelow) where
     frames = refl;
   }
 
-  first_unmapped : (m : Memory) (esp0 : ℕ) (stack : List ℕ) (env : Environment) → IsUsual esp0 m → IsStart esp0 stack → HasNoZero (first_storage m esp0 stack env).memory
+  pub first_unmapped : (m : Memory) (esp0 : ℕ) (stack : List ℕ) (env : Environment) → IsUsual esp0 m → IsStart esp0 stack → HasNoZero (first_storage m esp0 stack env).memory
   unfolding first_storage
   first_unmapped m esp0 stack env usual start = ap kind_of (laws.area.stack_has esp0 stack m start (laws.area.usual_has esp0 m usual)).zero
 

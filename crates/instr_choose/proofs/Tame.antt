@@ -68,7 +68,7 @@ module _ (memory : MemoryLaws) (calls : CallLaws) where
   tame_called (Ends e) v plain h = own_outside e plain
   tame_called (Gives labels result stores left) v plain h = tame_stores stores v.memory h
 
-  tame : (turn : ℕ) (o : Op) (v : Storage) → IsFrameless o → HasNoZero v.memory → IsTame (perform turn o v)
+  pub tame : (turn : ℕ) (o : Op) (v : Storage) → IsFrameless o → HasNoZero v.memory → IsTame (perform turn o v)
   unfolding perform
   tame turn (op.Set to from) v f h = tame_put to (term_in from v) v h
   tame turn (op.Calc to c left right) v f h = tame_put to _ v h

@@ -69,7 +69,7 @@ module _ (runs : RunLaws UnitState) (units : UnitLaws) (unit : CodeUnit) where
     abbrev inner : UnitState
     inner = state_at (turn_of t b) (Within b.ops b.exit) (fresh u)
 
-    begins : Begins (next unit) outer inner (turn_shown b.at)
+    pub begins : Begins (next unit) outer inner (turn_shown b.at)
     begins = by (b.at == 0) refl
       where
         not_zero : (b.at == 0) ≡ false → b.at ≢ 0
