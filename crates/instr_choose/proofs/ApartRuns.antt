@@ -1,61 +1,43 @@
 -- The accesses of the code's runs are apart where those of its unit's runs are.
-use Rattle.std.proofs.Common.{◌≡◌, ◌≢◌, ◌⊎◌, ℕ, ◌+◌, ◌==◌, Bool, true, false, not, cond, List, [], ◌∷◌, ◌++◌, map, length, All, Option, Some, None, Result, Ok, Err, refl, sym, ap, ◌∙◌, subst, append_assoc, inl, inr, arith}
+use Rattle.std.proofs.Common.{◌≡◌, ◌⊎◌, ℕ, List, [], ◌∷◌, ◌++◌, map, length, All, Option, Some, None, Result, Ok, Err, refl, sym, ap, ◌∙◌, subst, append_assoc, inl, inr}
 use Rattle.std.specs.List.{slice_get}
 use Rattle.std.specs.Option.{option_map}
 use Rattle.std.proofs.lemmas.List.{append-nil, map-append}
-use Rattle.std.proofs.lemmas.List.Elements.{All-nil, All-cons, All-head, All-tail, All-contains}
+use Rattle.std.proofs.lemmas.List.Elements.{All-nil, All-head, All-tail, All-contains}
 use Rattle.outside.specs.Environment.{Environment, IsEnvironment}
-use Rattle.x86_values.specs.Words.{known, word_of}
-use Rattle.x86_types.specs.declared.operand.Reg.TheVariants.{Eax}
-use Rattle.x86_types.specs.declared.operand.Rm.TheVariants as rm
-use Rattle.x86_types.specs.declared.operation.AluOp.TheVariants as alu
-use Rattle.x86_types.specs.declared.operation.Cond.TheVariants as condition_of
-use Rattle.x86_types.specs.declared.width.Width.TheVariants.{Four}
-use Rattle.x86_types.specs.declared.instr.Instr.TheVariants as instr
-use Rattle.traces.specs.Trace.{Label, Turn, End, Outside, Unspecified, Stopped, Seen, seen, before, Move, Stand, Go, Halt, Behaviour, run}
+use Rattle.traces.specs.Trace.{Label, Turn, End, Outside, Unspecified, Move, Stand, Go, Halt}
 use Rattle.traces.specs.Machines.{marked}
 use Rattle.traces.specs.Steps.{Reaches, rests, goes}
-use Rattle.memory.specs.Memory.{Memory, HasBytes, Load, with_stack}
-use Rattle.x86_meaning.specs.Operands.{Access}
+use Rattle.memory.specs.Memory.{Memory, HasBytes, with_stack}
 use Rattle.x86_meaning.specs.Run.{IsStart}
 use Rattle.private_memory.specs.PrivateArea.{IsUsual, IsApartAccess}
-use Rattle.flag_ir.specs.declared.variable.Term.{Term}
-use Rattle.flag_ir.specs.declared.variable.Term.TheVariants as term
 use Rattle.flag_ir.specs.declared.operation.Op.{Op}
 use Rattle.flag_ir.specs.declared.block.Block.{Block}
 use Rattle.flag_ir.specs.declared.block.Exit.{Exit}
-use Rattle.flag_ir.specs.declared.block.Exit.TheVariants as exit
-use Rattle.flag_ir.specs.declared.procedure.Proc.{Proc}
-use Rattle.flag_ir.specs.Storage.{Frame, Storage, term_in}
-use Rattle.flag_ir.specs.Operations.{and_then, needed, perform, shown_by}
-use Rattle.flag_ir.specs.Accesses.{op_accesses}
-use Rattle.flag_ir.specs.Entering.{CodeUnit, Onward, before_block, blocks_of, to_number, index_of_number, index_at, jump, leave}
-use Rattle.flag_ir.specs.UnitRun.{Before, Within, Over, UnitState, state_at, performed, left_for, within, fresh, next, first_storage, first_state, unit_run}
-use Rattle.flag_ir.specs.MoveAccesses.{within_accesses, begun_accesses, move_accesses}
-use Rattle.flag_ir.specs.Form.{IsTerm, IsOp, IsExit, IsFrameless, IsFramelessExit, IsFramelessBlock}
-use Rattle.named_code.specs.declared.slot.Slot.TheVariants.{Fixed}
+use Rattle.flag_ir.specs.Storage.{Storage}
+use Rattle.flag_ir.specs.Operations.{perform, shown_by}
+use Rattle.flag_ir.specs.Entering.{CodeUnit, blocks_of, index_at, jump}
+use Rattle.flag_ir.specs.UnitRun.{Before, UnitState, state_at, performed, fresh, next, first_storage, first_state, unit_run}
+use Rattle.flag_ir.specs.MoveAccesses.{begun_accesses, move_accesses}
+use Rattle.flag_ir.specs.Form.{IsOp, IsExit, IsFrameless, IsFramelessExit, IsFramelessBlock}
 use Rattle.named_code.specs.Items.{Item, CodeBlock, named_item}
-use Rattle.named_code.specs.Running.{CodeState, CodePoint, AtNumber, AtOld, Inside, CodePosition, standing_at, lost, act, goes_on, code_next}
+use Rattle.named_code.specs.Running.{CodeState, CodePoint, AtNumber, AtOld, Inside, CodePosition, standing_at, goes_on}
 use Rattle.named_code.specs.CodeRun.{first_state as first_code_state}
-use Rattle.instr_choose.specs.Lists.{made, put, alu_by, load_by, choose_op, choose_ops}
+use Rattle.instr_choose.specs.Lists.{choose_op, choose_ops}
 use Rattle.instr_choose.specs.Blocks.{choose_exit, choose_blocks}
-use Rattle.instr_choose.specs.Relation.{IsBelow, PassesList, done, more, ListEnds, here, later, PassesTo, IsMetByList}
-use Rattle.instr_choose.specs.Choosing.{marks_of}
-use Rattle.instr_choose.specs.States.{LeadsTo, HasNoZero}
-use Rattle.instr_choose.specs.Apart.{item_accesses, first_accesses, items_found, items_at, position_accesses, turn_of_mark, turn_found, turn_at, UnitIsApart, HasUsedUnspecified, CodeIsApart, StaysApart}
-use Rattle.instr_choose.proofs.Items.{put_is}
-use Rattle.instr_choose.proofs.Below.{scratch}
-use Rattle.instr_choose.proofs.Naming.{code_of, code_blocks, among, number_found, number_missing, address_found, address_missing, mark_is}
+use Rattle.instr_choose.specs.Relation.{IsBelow, ListEnds, PassesTo, IsMetByList}
+use Rattle.instr_choose.specs.Marks.{marks_of}
+use Rattle.instr_choose.specs.States.{HasNoZero}
+use Rattle.instr_choose.specs.Apart.{first_accesses, items_found, items_at, position_accesses, turn_shown, turn_found, turn_at, UnitIsApart, StaysApart}
+use Rattle.instr_choose.proofs.Naming.{code_of, among, number_found, address_found, address_missing, mark_is}
 use Rattle.instr_choose.proofs.Beginnings.{Begins, same, turn}
-use Rattle.instr_choose.proofs.UnitBlocks.{turn_of, turn_shown, begins}
+use Rattle.instr_choose.proofs.UnitBlocks.{turn_of, begins}
 use Rattle.instr_choose.proofs.CodeBlocks.{inside_is, found, IsJump, no_block, block_begins}
 use Rattle.instr_choose.proofs.Tame.{IsTame, tame}
-use Rattle.instr_choose.proofs.Exits.{jump_is, nothing_is, after_branch, branch_is, after_old, old_is, lost_below, jump_to_block, with_term, term_known, compared, compared_below, tests, branches, passes, taken, leaves, zero_refused, fault_is}
-use Rattle.instr_choose.proofs.QuietItems.{put_quiet, alu_quiet, jump_quiet, branch_quiet, old_quiet, nothing_quiet}
-use Rattle.instr_choose.proofs.SafeLists.{AreApart, IsSafePath, none_apart, quiet_path, load_accesses, op_path}
-use Rattle.instr_choose.proofs.Meets.{UnitLawsBelow, IsAsked, IsOr, unspecified_or, fresh_below, target}
+use Rattle.instr_choose.proofs.SafeLists.{AreApart, op_path}
+use Rattle.instr_choose.proofs.Meets.{UnitLawsBelow, IsAsked, IsOr, unspecified_or, fresh_below}
 use Rattle.instr_choose.proofs.Starting.{point_from, first_is, first_below, first_unmapped}
-use Rattle.instr_choose.proofs.WatchedItems.{OnGo, code, step, Used, used_more, UnitAt, unit_apart, unit_step, unit_used, AtJump, leads, nowhere, excused, BehindItem, IsWatched, Onto, used_items, watched_path, watched_end, exit_items, watched_exit}
+use Rattle.instr_choose.proofs.WatchedItems.{code, step, Used, used_more, UnitAt, unit_apart, unit_step, unit_used, AtJump, leads, nowhere, excused, BehindItem, IsWatched, Onto, used_items, watched_path, watched_end, watched_exit}
 
 marked_go : {S : Type 0} (a : ℕ) (m : Move S) (ks : List Label) (q : S) → marked a m ≡ Go ks q → (js : List Label) × (m ≡ Go js q) × (Turn a ∷ js ≡ ks)
 marked_go a (Stand ls e) ks q h = absurd cc
@@ -175,7 +157,7 @@ module _ (laws : UnitLawsBelow) (u : CodeUnit) (asked : IsAsked u) (start : Unit
           inl (record {
             turned = turn_shown b.at;
             begun = subst (λ xs. Begins machine (standing_at p s) (standing_at (Inside xs) s) (turn_shown b.at)) (sym same_items) (subst (λ a. Begins machine (standing_at p s) (standing_at (Inside (code_of b).items) s) (turn_shown a)) mark (block_begins laws.code_runs (marks_of u) blocks p s (code_of b) jump f));
-            is = turns ∙ (ap (turn_found (marks_of u)) f ∙ ap turn_of_mark mark);
+            is = turns ∙ (ap (turn_found (marks_of u)) f ∙ ap turn_shown mark);
             watched = subst (λ xs. Watched xs (ls ++ turn_shown b.at) s) (sym same_items) (watched_block ls t k n x s reaches below no_zero b is);
           })
       cases None is f = inr (inl (record { none = items ∙ ap items_found f; stands = no_block laws.code_runs (marks_of u) blocks p s jump f }))

@@ -12,6 +12,7 @@ use Rattle.instr_choose.proofs.Forming.{in_form}
 use Rattle.instr_choose.proofs.Costing.{costs}
 use Rattle.instr_choose.proofs.Meets.{UnitLawsBelow}
 use Rattle.instr_choose.proofs.Starting.{keeps}
+use Rattle.instr_choose.proofs.ApartRuns.{stays_apart}
 
 pub chosen : UnitLawsBelow → ChosenLaw
 chosen laws u form shape low names = record {
@@ -19,6 +20,7 @@ chosen laws u form shape low names = record {
   ats = names_kept u.whole;
   keeps = keeps laws u (record { form = form; shape = shape; low = low });
   costs = costs u form low;
+  apart = stays_apart laws u (record { form = form; shape = shape; low = low });
 }
 
 pub of_blocks : ChosenLaw → (u : CodeUnit) (code : List VBlock) → code ≡ choose_blocks u.whole → IsInForm u → IsWellShaped u → u.lowered ≡ true → UnitHasNames u → Chooses u code

@@ -121,8 +121,8 @@ module _ (laws : LawsBelow) (runs : RunLaws CodePosition) (unit : CodeUnit) (mar
   abbrev pub step : CodePosition → Move CodePosition
   step = machine runs marks (code_blocks unit.whole)
 
-  abbrev pub items_at : List Item → CodeState → CodePosition
-  items_at = within runs marks (code_blocks unit.whole)
+  abbrev pub code_at : List Item → CodeState → CodePosition
+  code_at = within runs marks (code_blocks unit.whole)
 
   -- the code comes to a jump to the same block, over places that the storage is below
   pub record GoesOn (k : ℕ) (v : Storage) (q : CodePosition) : Type 0 where
@@ -172,10 +172,10 @@ module _ (laws : LawsBelow) (runs : RunLaws CodePosition) (unit : CodeUnit) (mar
     to_block : (n : ℕ) (q : CodePosition) → ExitMeets (before_block (index_of_number n unit.whole) Outside u) q → ExitMeets (before_block (index_of_number n (blocks_of unit u.frames)) Outside u) q
     to_block n q h = subst (λ (fs : List Frame). ExitMeets (before_block (index_of_number n (blocks_of unit fs)) Outside u) q) (sym below.frames) h
 
-    jumps : (n : ℕ) (rest : List Item) (t : CodeState) → step (items_at (named_item (made (instr.Jmp n) []) ∷ rest) t) ≡ Go [] (standing_at (AtNumber n) t)
+    jumps : (n : ℕ) (rest : List Item) (t : CodeState) → step (code_at (named_item (made (instr.Jmp n) []) ∷ rest) t) ≡ Go [] (standing_at (AtNumber n) t)
     jumps n rest t = inside_is runs marks (code_blocks unit.whole) (named_item (made (instr.Jmp n) []) ∷ rest) t ∙ jump_is n rest t
 
-    go_meets : (n : ℕ) → ExitMeets (before_block (index_of_number n unit.whole) Outside u) (items_at (named_item (made (instr.Jmp n) []) ∷ []) s)
+    go_meets : (n : ℕ) → ExitMeets (before_block (index_of_number n unit.whole) Outside u) (code_at (named_item (made (instr.Jmp n) []) ∷ []) s)
     go_meets n = by_number n u _ _ 0 s (rests _) (jumps n [] s) below unmapped
 
     -- a term in EAX
@@ -204,7 +204,7 @@ module _ (laws : LawsBelow) (runs : RunLaws CodePosition) (unit : CodeUnit) (mar
       pub passes : PassesList tests s [] compared
       passes = more _ _ s [] (with_term test) [] compared (put_is (Fixed Eax) test s) (more _ [] (with_term test) [] compared [] compared (alu_is alu.Cmp (Fixed Eax) (term.Word 0) (with_term test) tt) (done compared))
 
-      reached : (k : ℕ) × Reaches step (items_at (tests ++ branches) s) k [] (items_at branches compared)
+      reached : (k : ℕ) × Reaches step (code_at (tests ++ branches) s) k [] (code_at branches compared)
       reached = passes_reach runs marks (code_blocks unit.whole) tests branches s compared [] passes
 
       pub taken : (v : ℕ) → known (term_in test u) ≡ Some v → condition condition_of.Ne compared.cpu.flags ≡ Some (not (v == 0))
@@ -212,25 +212,25 @@ module _ (laws : LawsBelow) (runs : RunLaws CodePosition) (unit : CodeUnit) (mar
           not_zero_says laws.less laws.words (term_in test u) ((with_term test).cpu.regs 0) v
           (subst (WordLessSpecified (term_in test u)) (sym (term_there test)) (value_below laws test u s i below)) e
 
-      branches_by : (v : ℕ) → known (term_in test u) ≡ Some v → step (items_at branches compared) ≡ after_branch (Some (not (v == 0))) m (map named_item (made (instr.Jmp n) [] ∷ [])) compared
+      branches_by : (v : ℕ) → known (term_in test u) ≡ Some v → step (code_at branches compared) ≡ after_branch (Some (not (v == 0))) m (map named_item (made (instr.Jmp n) [] ∷ [])) compared
       branches_by v e = inside_is runs marks (code_blocks unit.whole) branches compared ∙ (branch_is m (map named_item (made (instr.Jmp n) [] ∷ [])) compared ∙ ap (λ o. after_branch o m (map named_item (made (instr.Jmp n) [] ∷ [])) compared) (taken v e))
 
-      by_zero : (z : Bool) → step (items_at branches compared) ≡ after_branch (Some (not z)) m (map named_item (made (instr.Jmp n) [] ∷ [])) compared → ExitMeets (before_block (index_of_number (cond z n m) unit.whole) Outside u) (items_at (tests ++ branches) s)
+      by_zero : (z : Bool) → step (code_at branches compared) ≡ after_branch (Some (not z)) m (map named_item (made (instr.Jmp n) [] ∷ [])) compared → ExitMeets (before_block (index_of_number (cond z n m) unit.whole) Outside u) (code_at (tests ++ branches) s)
       by_zero true g =
           by_number n u _ _ _ compared (runs.reaches_then step _ reached.0 [] _ 1 [] _ reached.1 (runs.reaches_step step _ [] _ g)) (jumps n [] compared) compared_below unmapped
       by_zero false g = by_number m u _ _ reached.0 compared reached.1 g compared_below unmapped
 
-      branch_meets : (v : ℕ) → known (term_in test u) ≡ Some v → ExitMeets (before_block (index_of_number (cond (v == 0) n m) unit.whole) Outside u) (items_at (tests ++ branches) s)
+      branch_meets : (v : ℕ) → known (term_in test u) ≡ Some v → ExitMeets (before_block (index_of_number (cond (v == 0) n m) unit.whole) Outside u) (code_at (tests ++ branches) s)
       branch_meets v e = by_zero (v == 0) (branches_by v e)
 
     module _ (to : Term) (i : IsTerm 0 to) where
       abbrev pub leaves : List Item
       leaves = map named_item (made (instr.JmpTo (rm.Reg Eax)) (Fixed Eax ∷ []) ∷ [])
 
-      arrived : (k : ℕ) × Reaches step (items_at (named_item (put (Fixed Eax) to) ∷ leaves) s) k [] (items_at leaves (with_term to))
+      arrived : (k : ℕ) × Reaches step (code_at (named_item (put (Fixed Eax) to) ∷ leaves) s) k [] (code_at leaves (with_term to))
       arrived = passes_reach runs marks (code_blocks unit.whole) (named_item (put (Fixed Eax) to) ∷ []) leaves s (with_term to) [] (more _ [] s [] (with_term to) [] (with_term to) (put_is (Fixed Eax) to s) (done (with_term to)))
 
-      old_meets : (a : ℕ) → known (term_in to u) ≡ Some a → ExitMeets (before_block (index_at a unit.whole) (Stopped a) u) (items_at (named_item (put (Fixed Eax) to) ∷ leaves) s)
+      old_meets : (a : ℕ) → known (term_in to u) ≡ Some a → ExitMeets (before_block (index_at a unit.whole) (Stopped a) u) (code_at (named_item (put (Fixed Eax) to) ∷ leaves) s)
       old_meets a e =
           by_old a u _ _ arrived.0 (lost (with_term to)) arrived.1
           (inside_is runs marks (code_blocks unit.whole) leaves (with_term to) ∙ (old_is [] (with_term to) ∙ ap (λ o. after_old o (with_term to)) (term_known to a i e)))
@@ -242,24 +242,24 @@ module _ (laws : LawsBelow) (runs : RunLaws CodePosition) (unit : CodeUnit) (mar
     pub fault_is : act (named_item (load_by Four (Fixed Eax) (term.Word 0))) [] s ≡ Halt [] MemoryFault
     fault_is = load_is Four (Fixed Eax) (term.Word 0) s 0 (laws.words.known_word 0 (omega arith), omega arith) [] ∙ ap (λ b. after_load b 0 (padded (bytes_at s.memory 0 4)) [] s) zero_refused
 
-    fault_ends : RunEnds step (items_at (map named_item (choose_exit exit.Fault)) s) [] MemoryFault
+    fault_ends : RunEnds step (code_at (map named_item (choose_exit exit.Fault)) s) [] MemoryFault
     unfolding choose_exit
     fault_ends = record {
       steps = 0;
       ends = runs.run_halt step _ [] MemoryFault (inside_is runs marks (code_blocks unit.whole) (map named_item (load_by Four (Fixed Eax) (term.Word 0) ∷ [])) s ∙ fault_is) 0;
     }
 
-    stop_ends : RunEnds step (items_at (map named_item (choose_exit exit.Stop)) s) [] Outside
+    stop_ends : RunEnds step (code_at (map named_item (choose_exit exit.Stop)) s) [] Outside
     unfolding choose_exit
     stop_ends =
         stands_behind _ _ 0 (Inside []) s (rests _) (inside_is runs marks (code_blocks unit.whole) (map named_item (made instr.Nop [] ∷ [])) s ∙ nothing_is [] s) (inside_is runs marks (code_blocks unit.whole) [] s)
 
-    pub exit_meets : (turn : ℕ) (e : Exit) → unit.procs ≡ [] → unit.lowered ≡ true → IsExit 0 (length unit.whole) unit.procs e → IsFramelessExit e → ExitMeets (leave unit turn e u) (items_at (map named_item (choose_exit e)) s)
+    pub exit_meets : (turn : ℕ) (e : Exit) → unit.procs ≡ [] → unit.lowered ≡ true → IsExit 0 (length unit.whole) unit.procs e → IsFramelessExit e → ExitMeets (leave unit turn e u) (code_at (map named_item (choose_exit e)) s)
     unfolding leave choose_exit
     exit_meets turn (exit.Go n) alone low i f = to_block n _ (go_meets n)
     exit_meets turn (exit.Branch test m n) alone low i f = if_known (known (term_in test u)) _ _ (λ v e. to_block (cond (v == 0) n m) _ (branch_meets test m n i.0 v e))
-    exit_meets turn (exit.Jump to) alone low i f = if_known (known (term_in to u)) _ _ (λ a e. subst (λ (o : Onward). ExitMeets o (items_at (map named_item (choose_exit (exit.Jump to))) s)) (sym (jump_to_block unit alone a u below.frames)) (old_meets to i a e))
+    exit_meets turn (exit.Jump to) alone low i f = if_known (known (term_in to u)) _ _ (λ a e. subst (λ (o : Onward). ExitMeets o (code_at (map named_item (choose_exit (exit.Jump to))) s)) (sym (jump_to_block unit alone a u below.frames)) (old_meets to i a e))
     exit_meets turn (exit.CallProc entry back) alone low i f = absurd f
     exit_meets turn exit.Return alone low i f = absurd f
     exit_meets turn exit.Fault alone low i f = λ d. fault_ends
-    exit_meets turn exit.Stop alone low i f = subst (λ (b : Bool). ExitMeets (stop_at b turn u) (items_at (map named_item (choose_exit exit.Stop)) s)) (sym low) (if_known (known (padded (bytes_at u.memory 0x75000004 4))) (λ a. Err (Stopped a)) _ (λ a e d. stop_ends))
+    exit_meets turn exit.Stop alone low i f = subst (λ (b : Bool). ExitMeets (stop_at b turn u) (code_at (map named_item (choose_exit exit.Stop)) s)) (sym low) (if_known (known (padded (bytes_at u.memory 0x75000004 4))) (λ a. Err (Stopped a)) _ (λ a e d. stop_ends))

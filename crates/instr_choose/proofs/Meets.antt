@@ -33,17 +33,18 @@ use Rattle.x86_values.specs.LessSpecified.{WordLessSpecified}
 use Rattle.instr_choose.specs.Lists.{choose_ops}
 use Rattle.instr_choose.specs.Blocks.{choose_exit}
 use Rattle.instr_choose.specs.Relation.{place_of_var, IsBelow, AreMetBy, ChoosingLaws}
-use Rattle.instr_choose.specs.Choosing.{marks_of}
+use Rattle.instr_choose.specs.Marks.{marks_of}
+use Rattle.instr_choose.specs.Apart.{turn_shown}
 use Rattle.instr_choose.specs.States.{LeadsTo, HasNoZero, ChosenPair}
 use Rattle.instr_choose.proofs.Below.{nothing}
 use Rattle.instr_choose.proofs.Choosing.{LawsBelow}
 use Rattle.instr_choose.proofs.Naming.{code_of, code_blocks, among, number_found, address_found, address_missing, mark_is}
 use Rattle.instr_choose.proofs.Forming.{begins}
 use Rattle.instr_choose.proofs.Beginnings.{IsStep, Begins, RunEnds, RunShows, step_rests, reach_go, reach_ends, reach_shows, begun_goes, begun_ends, begun_shows}
-use Rattle.instr_choose.proofs.UnitBlocks.{turn_of, turn_shown, block_goes, block_leaves, block_ends}
+use Rattle.instr_choose.proofs.UnitBlocks.{turn_of, block_goes, block_leaves, block_ends}
 use Rattle.instr_choose.proofs.CodeBlocks.{act_steps, inside_is, passes_reach, fails_ends, found, IsJump, no_block, block_begins}
 use Rattle.instr_choose.proofs.Tame.{IsTame, tame_all}
-use Rattle.instr_choose.proofs.Exits.{step, items_at, ExitMeets, exit_meets}
+use Rattle.instr_choose.proofs.Exits.{step, code_at, ExitMeets, exit_meets}
 
 pub record UnitLawsBelow : Type 0 where
   pub below : LawsBelow
@@ -181,12 +182,12 @@ module _ (laws : UnitLawsBelow) (u : CodeUnit) (asked : IsAsked u) where
     exit_items = map named_item (choose_exit b.exit)
 
     abbrev inner : CodePosition
-    inner = items_at laws.below laws.code_runs u (marks_of u) (op_items ++ exit_items) s
+    inner = code_at laws.below laws.code_runs u (marks_of u) (op_items ++ exit_items) s
 
     -- the code begins the turn that the block begins
     starts : Begins target to inner (turn_shown b.at)
     starts =
-        subst₂ (λ (a : ℕ) (items : List Item). Begins target to (items_at laws.below laws.code_runs u (marks_of u) items s) (turn_shown a)) (mark_is u asked.form.whole.numbers k b is) (map-append named_item (choose_ops b.ops) (choose_exit b.exit))
+        subst₂ (λ (a : ℕ) (items : List Item). Begins target to (code_at laws.below laws.code_runs u (marks_of u) items s) (turn_shown a)) (mark_is u asked.form.whole.numbers k b is) (map-append named_item (choose_ops b.ops) (choose_exit b.exit))
         (block_begins laws.code_runs (marks_of u) (code_blocks u.whole) p s (code_of b) jump finds)
 
     awake : run target inner 0 ≡ seen [] None
@@ -196,7 +197,7 @@ module _ (laws : UnitLawsBelow) (u : CodeUnit) (asked : IsAsked u) where
         never [] e = let first = begins b.exit frameless.exit in let g : [] ≡ named_item first.0 ∷ map named_item first.1 = e ∙ ap (map named_item) first.2 in cc
         never (y ∷ ys) e = cc
 
-        by : (xs : List Item) → xs ≡ op_items ++ exit_items → run target (items_at laws.below laws.code_runs u (marks_of u) xs s) 0 ≡ seen [] None
+        by : (xs : List Item) → xs ≡ op_items ++ exit_items → run target (code_at laws.below laws.code_runs u (marks_of u) xs s) 0 ≡ seen [] None
         by [] e = absurd (never op_items e)
         by (y ∷ ys) e = step_rests laws.code_runs target _ (subst IsStep (sym (inside_is laws.code_runs (marks_of u) (code_blocks u.whole) (y ∷ ys) s)) (act_steps y ys s))
 
@@ -239,9 +240,9 @@ module _ (laws : UnitLawsBelow) (u : CodeUnit) (asked : IsAsked u) where
     met_by (Err e) ended tame h =
         let split : op_items ++ exit_items ≡ h.front ++ (h.rest ++ exit_items) = ap (λ xs. xs ++ exit_items) h.is ∙ append_assoc h.front h.rest exit_items in
         let first = passes_reach laws.code_runs (marks_of u) (code_blocks u.whole) h.front (h.rest ++ exit_items) s h.state shown h.passes in
-        let reaches = subst (λ xs. Reaches target (items_at laws.below laws.code_runs u (marks_of u) xs s) first.0 shown (items_at laws.below laws.code_runs u (marks_of u) (h.rest ++ exit_items) h.state)) (sym split) first.1 in
+        let reaches = subst (λ xs. Reaches target (code_at laws.below laws.code_runs u (marks_of u) xs s) first.0 shown (code_at laws.below laws.code_runs u (marks_of u) (h.rest ++ exit_items) h.state)) (sym split) first.1 in
         both_by from to labels e (block_ends laws.unit_runs laws.units u turn k b x there e ended) (outer_shows first.0 _ reaches)
-        (λ other. outer_ends first.0 _ (outside e) reaches (subst (λ f. RunEnds target (items_at laws.below laws.code_runs u (marks_of u) (h.rest ++ exit_items) h.state) [] f) (sym tame) (fails_ends laws.code_runs (marks_of u) (code_blocks u.whole) h.rest exit_items h.state e (h.fails other))))
+        (λ other. outer_ends first.0 _ (outside e) reaches (subst (λ f. RunEnds target (code_at laws.below laws.code_runs u (marks_of u) (h.rest ++ exit_items) h.state) [] f) (sym tame) (fails_ends laws.code_runs (marks_of u) (code_blocks u.whole) h.rest exit_items h.state e (h.fails other))))
 
     block_meets : Both from to
     block_meets =

@@ -10,7 +10,7 @@ use Rattle.named_code.specs.declared.named.VBlock.{VBlock}
 use Rattle.named_code.specs.Items.{CodeBlock, named_block, named_blocks}
 use Rattle.named_code.specs.Running.{block_of_number, block_at}
 use Rattle.instr_choose.specs.Blocks.{choose_block, choose_blocks}
-use Rattle.instr_choose.specs.Choosing.{names_of, marks_of, at_or_zero}
+use Rattle.instr_choose.specs.Marks.{names_of, marks_of, at_or_zero}
 
 -- ---- names
 pub names_kept : (blocks : List Block) → map (λ (b : VBlock). (b.number, b.at)) (choose_blocks blocks) ≡ map names_of blocks

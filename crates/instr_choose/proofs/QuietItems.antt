@@ -1,5 +1,5 @@
 -- The chosen instructions that access nothing of memory.
-use Rattle.std.proofs.Common.{◌≡◌, ℕ, ◌&&◌, Bool, true, false, cond, List, [], ◌∷◌, ◌++◌, Option, Some, None, refl}
+use Rattle.std.proofs.Common.{◌≡◌, ℕ, Bool, true, false, cond, List, [], ◌∷◌, ◌++◌, refl}
 use Rattle.std.specs.List.{AllByRecursion}
 use Rattle.x86_types.specs.declared.operand.Reg.{Reg}
 use Rattle.x86_types.specs.declared.operand.Reg.TheVariants.{Eax, Ecx, Edx}
@@ -14,7 +14,7 @@ use Rattle.x86_types.specs.declared.width.Width.{Width}
 use Rattle.x86_types.specs.declared.width.Width.TheVariants.{One, Two, Four}
 use Rattle.x86_types.specs.declared.instr.Instr.TheVariants as instr
 use Rattle.memory.specs.Memory.{Load, Store}
-use Rattle.x86_meaning.specs.Operands.{Location, InRegister, Constant, SizedOperand, operand, accesses_of}
+use Rattle.x86_meaning.specs.Operands.{InRegister, operand, accesses_of}
 use Rattle.x86_meaning.specs.TransferShapes.{constant, alu_writes}
 use Rattle.x86_meaning.specs.Transfers.{transfer}
 use Rattle.x86_meaning.specs.Effect.{accesses}
@@ -170,10 +170,31 @@ divide_list_quiet Four signed q r high low by =
     (put_quiet (Fixed Ecx) by, (put_quiet (Fixed Edx) high, (put_quiet (Fixed Eax) low, (divide_quiet signed Four, (copy_quiet (slot_of q) (Fixed Eax), (copy_quiet (slot_of r) (Fixed Edx), tt))))))
 divide_list_quiet Two signed q r high low by =
     (put_quiet (Fixed Ecx) by, (put_quiet (Fixed Edx) high, (put_quiet (Fixed Eax) low, (divide_quiet signed Two, (extend_quiet Two (slot_of q) (Fixed Eax), (extend_quiet Two (slot_of r) (Fixed Edx), tt))))))
-divide_list_quiet One signed q r high low by =
-    (put_quiet (Fixed Ecx) by, (put_quiet (Fixed Edx) high, (extend_quiet One (Fixed Eax) (Fixed Edx), (shift_quiet _ (count.Imm 8) (Fixed Eax),
-    (put_quiet (Fixed Edx) low, (byte_quiet (Fixed Eax) (Fixed Edx), (divide_quiet signed One, (extend_quiet One (slot_of q) (Fixed Eax),
-    (extend_quiet Two (Fixed Eax) (Fixed Eax), (shift_quiet _ (count.Imm 8) (Fixed Eax), (copy_quiet (slot_of r) (Fixed Eax), tt)))))))))))
+divide_list_quiet One signed q r high low by = (
+  put_quiet (Fixed Ecx) by,
+  (
+    put_quiet (Fixed Edx) high,
+    (
+      extend_quiet One (Fixed Eax) (Fixed Edx),
+      (
+        shift_quiet _ (count.Imm 8) (Fixed Eax),
+        (
+          put_quiet (Fixed Edx) low,
+          (
+            byte_quiet (Fixed Eax) (Fixed Edx),
+            (
+              divide_quiet signed One,
+              (
+                extend_quiet One (slot_of q) (Fixed Eax),
+                (extend_quiet Two (Fixed Eax) (Fixed Eax), (shift_quiet _ (count.Imm 8) (Fixed Eax), (copy_quiet (slot_of r) (Fixed Eax), tt))),
+              ),
+            ),
+          ),
+        ),
+      ),
+    ),
+  ),
+)
 
 pub pick_quiet : (to : Var) (test x y : Term) → AreQuiet (choose_pick to test x y)
 pick_quiet to test x y =

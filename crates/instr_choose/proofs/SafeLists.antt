@@ -1,5 +1,5 @@
 -- Each access along the list of an operation is one of the operation's.
-use Rattle.std.proofs.Common.{◌≡◌, ℕ, ◌==◌, ◌&&◌, ◌||◌, Bool, true, false, not, cond, List, [], ◌∷◌, ◌++◌, map, All, Option, Some, None, Result, Ok, Err, refl, sym, ap, ◌∙◌, subst, arith}
+use Rattle.std.proofs.Common.{◌≡◌, ℕ, ◌==◌, ◌||◌, Bool, true, false, not, cond, List, [], ◌∷◌, ◌++◌, map, All, Option, Some, None, Result, Err, refl, sym, ap, ◌∙◌, subst, arith}
 use Rattle.std.specs.Option.{option_map}
 use Rattle.std.proofs.lemmas.Bool.{and_left, and_right, or_from, eqb-true}
 use Rattle.std.proofs.lemmas.List.Elements.{All-nil, All-cons, All-head}
@@ -12,7 +12,7 @@ use Rattle.x86_types.specs.declared.instr.Instr.TheVariants as instr
 use Rattle.x86_types.specs.Numbers.{size_of}
 use Rattle.traces.specs.Trace.{Label, End, Unspecified, Move, Stand, Go, Halt}
 use Rattle.memory.specs.Memory.{Memory, Load, Store}
-use Rattle.memory.specs.LessSpecified.{MemoryLessSpecified, RequestLessSpecified}
+use Rattle.memory.specs.LessSpecified.{MemoryLessSpecified}
 use Rattle.memory.specs.SystemCall.{Request, Called, Ends, transfer_call, call_by, system_call}
 use Rattle.x86_meaning.specs.Operands.{Access, InRegister, InMemory}
 use Rattle.x86_meaning.specs.TransferShapes.{by_one, by_two, move_transfer}
@@ -33,7 +33,7 @@ use Rattle.named_code.specs.declared.slot.Slot.{Slot}
 use Rattle.named_code.specs.declared.slot.Slot.TheVariants.{Fixed, Name}
 use Rattle.named_code.specs.declared.named.VInstr.{VInstr}
 use Rattle.named_code.specs.Items.{Item, named_item, place_of}
-use Rattle.named_code.specs.Running.{CodeState, CodePoint, Inside, CodePosition, standing_at, act}
+use Rattle.named_code.specs.Running.{CodeState, Inside, CodePosition, standing_at, act}
 use Rattle.instr_choose.specs.Lists.{slot_of, made, put, copy, load_by, store_by, width_of, choose_calc, choose_divide, choose_pick, choose_store, choose_system, choose_op}
 use Rattle.instr_choose.specs.Relation.{place_of_var, IsBelow}
 use Rattle.instr_choose.specs.Apart.{item_accesses}
@@ -43,7 +43,7 @@ use Rattle.instr_choose.proofs.Below.{scratch}
 use Rattle.instr_choose.proofs.Rules.{each_size}
 use Rattle.instr_choose.proofs.Choosing.{LawsBelow}
 use Rattle.instr_choose.proofs.Memories.{address_is, asked_number, asked_fd, asked_at, asked_count, asks_less}
-use Rattle.instr_choose.proofs.QuietItems.{IsQuiet, AreQuiet, put_quiet, copy_quiet, calc_quiet, divide_list_quiet, pick_quiet}
+use Rattle.instr_choose.proofs.QuietItems.{AreQuiet, put_quiet, copy_quiet, calc_quiet, divide_list_quiet, pick_quiet}
 
 abbrev pub AreApart : CodeState → List Access → Type 0
 AreApart s xs = All (IsApartAccess s.memory) xs
@@ -192,9 +192,10 @@ module _ (laws : LawsBelow) (u : Storage) where
   unfolding accesses transfer
   call_path s h never apart =
       let less = asks_less laws u s h in
-      let same : (n : ℕ) → _ = λ n. (laws.less.same_word _ _ n less.number, laws.less.same_word _ _ n less.fd, laws.less.same_word _ _ n less.at, laws.less.same_word _ _ n less.count) in
-      (buffer_moved (IsApartAccess s.memory) (request_in u) (request_of (asked_count laws s).cpu) u.memory u.left (λ e. never (ap (λ c. called c u) e)) same (all_moved s _ h.memory apart),
-      λ ls t g. quiet_path (copy (Name 0) (Fixed Eax) ∷ []) (copy_quiet (Name 0) (Fixed Eax), tt) t)
+      let same : (n : ℕ) → _ = λ n. (laws.less.same_word _ _ n less.number, laws.less.same_word _ _ n less.fd, laws.less.same_word _ _ n less.at, laws.less.same_word _ _ n less.count) in (
+        buffer_moved (IsApartAccess s.memory) (request_in u) (request_of (asked_count laws s).cpu) u.memory u.left (λ e. never (ap (λ c. called c u) e)) same (all_moved s _ h.memory apart),
+        λ ls t g. quiet_path (copy (Name 0) (Fixed Eax) ∷ []) (copy_quiet (Name 0) (Fixed Eax), tt) t,
+      )
 
   abbrev call_items : List Item
   call_items = map named_item (made instr.Int80 [] ∷ copy (Name 0) (Fixed Eax) ∷ [])

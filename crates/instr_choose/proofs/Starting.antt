@@ -23,7 +23,8 @@ use Rattle.named_code.specs.Running.{AtOld}
 use Rattle.named_code.specs.CodeRun.{first_register, first_places, first_state as first_code_state, blocks_run}
 use Rattle.instr_choose.specs.Relation.{place_of_var, IsBelow}
 use Rattle.instr_choose.specs.Blocks.{choose_blocks}
-use Rattle.instr_choose.specs.Choosing.{marks_of, chosen_costing, RefinesUnit}
+use Rattle.instr_choose.specs.Marks.{marks_of}
+use Rattle.instr_choose.specs.Choosing.{chosen_costing, RefinesUnit}
 use Rattle.instr_choose.specs.States.{LeadsTo, HasNoZero, ChosenPair}
 use Rattle.instr_choose.proofs.Below.{nothing}
 use Rattle.instr_choose.proofs.Naming.{code_blocks}

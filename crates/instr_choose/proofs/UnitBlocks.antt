@@ -15,14 +15,12 @@ use Rattle.flag_ir.specs.Operations.{perform, performs, shown_by, shown_by_all}
 use Rattle.flag_ir.specs.Entering.{CodeUnit, Onward, blocks_of, leave}
 use Rattle.flag_ir.specs.UnitRun.{Before, Within, UnitState, state_at, performed, left_for, within, fresh, next}
 use Rattle.flag_ir.specs.UnitLaws.{UnitLaws}
+use Rattle.instr_choose.specs.Apart.{turn_shown}
 use Rattle.instr_choose.proofs.Beginnings.{IsStep, advances, halts, Begins, same, turn, RunEnds, step_rests, reach_go, reach_ends, begun_goes, begun_ends}
 
--- the turn to which a block belongs, and what its first step shows before all else
+-- the turn to which a block belongs
 abbrev pub turn_of : ℕ → Block → ℕ
 turn_of t b = cond (b.at == 0) t b.at
-
-abbrev pub turn_shown : ℕ → List Label
-turn_shown a = cond (a == 0) [] (Turn a ∷ [])
 
 within_steps : (unit : CodeUnit) (t : ℕ) (ops : List Op) (e : Exit) (u : Storage) → IsStep (within unit t ops e u)
 within_steps unit t [] e u = cases (leave unit t e u)

@@ -1,59 +1,47 @@
 -- Items of the code whose accesses are apart, up to the use of an unspecified value by the unit: along lists, and those of exits.
-use Rattle.std.proofs.Common.{◌≡◌, ◌≢◌, ◌⊎◌, ℕ, ◌+◌, ◌==◌, Bool, true, false, not, cond, List, [], ◌∷◌, ◌++◌, map, length, All, Option, Some, None, Result, Ok, Err, refl, sym, ap, ◌∙◌, subst, append_assoc, inl, inr, arith}
-use Rattle.std.specs.List.{slice_get}
-use Rattle.std.specs.Option.{option_map}
-use Rattle.std.proofs.lemmas.List.{append-nil, map-append}
-use Rattle.std.proofs.lemmas.List.Elements.{All-nil, All-cons, All-head, All-tail, All-contains}
-use Rattle.outside.specs.Environment.{Environment, IsEnvironment}
-use Rattle.x86_values.specs.Words.{known, word_of}
+use Rattle.std.proofs.Common.{◌≡◌, ◌⊎◌, ℕ, ◌+◌, ◌==◌, Bool, true, false, not, cond, List, [], ◌∷◌, ◌++◌, map, length, All, Option, Some, None, Ok, refl, sym, ap, ◌∙◌, subst, append_assoc, inl, inr, arith}
+use Rattle.std.proofs.lemmas.List.{append-nil}
+use Rattle.std.proofs.lemmas.List.Elements.{All-nil, All-cons}
+use Rattle.x86_values.specs.Words.{known}
 use Rattle.x86_types.specs.declared.operand.Reg.TheVariants.{Eax}
-use Rattle.x86_types.specs.declared.operand.Rm.TheVariants as rm
 use Rattle.x86_types.specs.declared.operation.AluOp.TheVariants as alu
 use Rattle.x86_types.specs.declared.operation.Cond.TheVariants as condition_of
 use Rattle.x86_types.specs.declared.width.Width.TheVariants.{Four}
 use Rattle.x86_types.specs.declared.instr.Instr.TheVariants as instr
-use Rattle.traces.specs.Trace.{Label, Turn, End, Outside, Unspecified, Stopped, Seen, seen, before, Move, Stand, Go, Halt, Behaviour, run}
+use Rattle.traces.specs.Trace.{Label, End, Outside, Unspecified, Stopped, Seen, before, Move, Stand, Go, Halt, run}
 use Rattle.traces.specs.Machines.{marked}
-use Rattle.traces.specs.Steps.{Reaches, rests, goes}
-use Rattle.memory.specs.Memory.{Memory, HasBytes, Load, with_stack}
-use Rattle.x86_meaning.specs.Operands.{Access}
-use Rattle.x86_meaning.specs.Run.{IsStart}
-use Rattle.private_memory.specs.PrivateArea.{IsUsual, IsApartAccess}
+use Rattle.traces.specs.Steps.{Reaches}
+use Rattle.memory.specs.Memory.{Memory}
+use Rattle.private_memory.specs.PrivateArea.{IsApartAccess}
 use Rattle.flag_ir.specs.declared.variable.Term.{Term}
 use Rattle.flag_ir.specs.declared.variable.Term.TheVariants as term
 use Rattle.flag_ir.specs.declared.operation.Op.{Op}
-use Rattle.flag_ir.specs.declared.block.Block.{Block}
 use Rattle.flag_ir.specs.declared.block.Exit.{Exit}
 use Rattle.flag_ir.specs.declared.block.Exit.TheVariants as exit
-use Rattle.flag_ir.specs.declared.procedure.Proc.{Proc}
 use Rattle.flag_ir.specs.Storage.{Frame, Storage, term_in}
 use Rattle.flag_ir.specs.Operations.{and_then, needed, perform, shown_by}
-use Rattle.flag_ir.specs.Accesses.{op_accesses}
-use Rattle.flag_ir.specs.Entering.{CodeUnit, Onward, before_block, blocks_of, to_number, index_of_number, index_at, jump, leave}
-use Rattle.flag_ir.specs.UnitRun.{Before, Within, Over, UnitState, state_at, performed, left_for, within, fresh, next, first_storage, first_state, unit_run}
-use Rattle.flag_ir.specs.MoveAccesses.{within_accesses, begun_accesses, move_accesses}
-use Rattle.flag_ir.specs.Form.{IsTerm, IsOp, IsExit, IsFrameless, IsFramelessExit, IsFramelessBlock}
+use Rattle.flag_ir.specs.Entering.{CodeUnit, before_block, blocks_of, to_number, index_of_number, index_at, jump, leave}
+use Rattle.flag_ir.specs.UnitRun.{Before, Within, UnitState, state_at, performed, left_for, within, next}
+use Rattle.flag_ir.specs.MoveAccesses.{within_accesses, move_accesses}
+use Rattle.flag_ir.specs.Form.{IsTerm, IsExit, IsFramelessExit}
 use Rattle.named_code.specs.declared.slot.Slot.TheVariants.{Fixed}
 use Rattle.named_code.specs.Items.{Item, CodeBlock, named_item}
-use Rattle.named_code.specs.Running.{CodeState, CodePoint, AtNumber, AtOld, Inside, CodePosition, standing_at, lost, act, goes_on, code_next}
-use Rattle.named_code.specs.CodeRun.{first_state as first_code_state}
-use Rattle.instr_choose.specs.Lists.{made, put, alu_by, load_by, choose_op, choose_ops}
-use Rattle.instr_choose.specs.Blocks.{choose_exit, choose_blocks}
-use Rattle.instr_choose.specs.Relation.{IsBelow, PassesList, done, more, ListEnds, here, later, PassesTo, IsMetByList}
-use Rattle.instr_choose.specs.Choosing.{marks_of}
+use Rattle.named_code.specs.Running.{CodeState, CodePoint, AtNumber, AtOld, Inside, CodePosition, lost, act}
+use Rattle.instr_choose.specs.Lists.{made, put, alu_by, load_by}
+use Rattle.instr_choose.specs.Blocks.{choose_exit}
+use Rattle.instr_choose.specs.Relation.{IsBelow, PassesList, done, more, ListEnds, here, later}
+use Rattle.instr_choose.specs.Marks.{marks_of}
 use Rattle.instr_choose.specs.States.{LeadsTo, HasNoZero}
-use Rattle.instr_choose.specs.Apart.{item_accesses, first_accesses, items_found, items_at, position_accesses, turn_of_mark, turn_found, turn_at, UnitIsApart, HasUsedUnspecified, CodeIsApart, StaysApart}
+use Rattle.instr_choose.specs.Apart.{item_accesses, HasUsedUnspecified}
 use Rattle.instr_choose.proofs.Items.{put_is}
 use Rattle.instr_choose.proofs.Below.{scratch}
-use Rattle.instr_choose.proofs.Naming.{code_of, code_blocks, among, number_found, number_missing, address_found, address_missing, mark_is}
+use Rattle.instr_choose.proofs.Naming.{code_blocks, number_missing, address_missing}
 use Rattle.instr_choose.proofs.Beginnings.{Begins, same, turn}
-use Rattle.instr_choose.proofs.UnitBlocks.{turn_of, turn_shown, begins}
-use Rattle.instr_choose.proofs.CodeBlocks.{inside_is, found, IsJump, no_block, block_begins}
-use Rattle.instr_choose.proofs.Tame.{IsTame, tame}
+use Rattle.instr_choose.proofs.CodeBlocks.{found}
 use Rattle.instr_choose.proofs.Exits.{jump_is, nothing_is, after_branch, branch_is, after_old, old_is, lost_below, jump_to_block, with_term, term_known, compared, compared_below, tests, branches, passes, taken, leaves, zero_refused, fault_is}
 use Rattle.instr_choose.proofs.QuietItems.{put_quiet, alu_quiet, jump_quiet, branch_quiet, old_quiet, nothing_quiet}
-use Rattle.instr_choose.proofs.SafeLists.{AreApart, IsSafePath, none_apart, quiet_path, load_accesses, op_path}
-use Rattle.instr_choose.proofs.Meets.{UnitLawsBelow, IsAsked, IsOr, unspecified_or, fresh_below, target}
+use Rattle.instr_choose.proofs.SafeLists.{AreApart, IsSafePath, none_apart, quiet_path, load_accesses}
+use Rattle.instr_choose.proofs.Meets.{UnitLawsBelow, IsAsked, target}
 
 -- what holds where a move goes on
 abbrev pub OnGo : (List Label → CodePosition → Type 0) → Move CodePosition → Type 0
@@ -208,9 +196,11 @@ module _ (laws : UnitLawsBelow) (u : CodeUnit) (asked : IsAsked u) (start : Unit
 
     watched_ways : (a : ℕ) → known (term_in test v) ≡ Some a → leave u t (exit.Branch test m n) v ≡ to_number u (cond (a == 0) n m) v → (ls : List Label) → UnitAt ls t [] (exit.Branch test m n) v → IsWatched ways ls tested
     watched_ways a e l ls h =
-        inl (none_apart tested _ (branch_quiet condition_of.Ne m tested),
-            subst (Onto (map named_item (made (instr.Jmp n) [] ∷ [])) ls) (sym (branch_is m (map named_item (made (instr.Jmp n) [] ∷ [])) tested ∙ ap (λ o. after_branch o m (map named_item (made (instr.Jmp n) [] ∷ [])) tested) (taken laws.below laws.code_runs u (marks_of u) v s below no_zero test m n i a e)))
-            (by (a == 0) l))
+        inl (
+          none_apart tested _ (branch_quiet condition_of.Ne m tested),
+          subst (Onto (map named_item (made (instr.Jmp n) [] ∷ [])) ls) (sym (branch_is m (map named_item (made (instr.Jmp n) [] ∷ [])) tested ∙ ap (λ o. after_branch o m (map named_item (made (instr.Jmp n) [] ∷ [])) tested) (taken laws.below laws.code_runs u (marks_of u) v s below no_zero test m n i a e)))
+              (by (a == 0) l),
+        )
       where
         behind : UnitAt (ls ++ []) t [] (exit.Branch test m n) v
         behind = relabel ls (ls ++ []) t [] (exit.Branch test m n) v (more_nil ls) h
@@ -238,9 +228,11 @@ module _ (laws : UnitLawsBelow) (u : CodeUnit) (asked : IsAsked u) (start : Unit
 
     watched_way : (a : ℕ) → known (term_in to v) ≡ Some a → leave u t (exit.Jump to) v ≡ jump u a v → (ls : List Label) → UnitAt ls t [] (exit.Jump to) v → IsWatched way ls moved
     watched_way a e l ls h =
-        inl (none_apart moved _ (old_quiet moved),
-            subst (Onto [] ls) (sym (old_is [] moved ∙ ap (λ o. after_old o moved) (term_known laws.below laws.code_runs u (marks_of u) v s below no_zero to a i e)))
-            (old_jump t (exit.Jump to) v s below no_zero a (lost moved) (lost_below v moved (scratch v s 0 _ (omega arith) below)) l (ls ++ []) (relabel ls (ls ++ []) t [] (exit.Jump to) v (more_nil ls) h)))
+        inl (
+          none_apart moved _ (old_quiet moved),
+          subst (Onto [] ls) (sym (old_is [] moved ∙ ap (λ o. after_old o moved) (term_known laws.below laws.code_runs u (marks_of u) v s below no_zero to a i e)))
+              (old_jump t (exit.Jump to) v s below no_zero a (lost moved) (lost_below v moved (scratch v s 0 _ (omega arith) below)) l (ls ++ []) (relabel ls (ls ++ []) t [] (exit.Jump to) v (more_nil ls) h)),
+        )
 
     watched_old : (ls : List Label) → UnitAt ls t [] (exit.Jump to) v → IsWatched (named_item (put (Fixed Eax) to) ∷ way) ls s
     unfolding leave

@@ -19,7 +19,7 @@ use Rattle.named_code.specs.declared.named.VBlock.{VBlock}
 use Rattle.named_code.specs.Items.{Item, CodeBlock, named_blocks}
 use Rattle.named_code.specs.Running.{CodeState, CodePoint, AtNumber, AtOld, Inside, CodePosition, block_of_number, block_at, Marks, code_next}
 use Rattle.named_code.specs.CodeRun.{first_position}
-use Rattle.instr_choose.specs.Choosing.{marks_of}
+use Rattle.instr_choose.specs.Marks.{marks_of}
 
 -- ---- the accesses of an item: those of its operands, and the buffer of a call
 abbrev pub call_buffer : Instr → CodeState → List Access
@@ -48,12 +48,12 @@ abbrev pub position_accesses : List CodeBlock → CodePosition → List Access
 position_accesses code p = first_accesses (items_at code p.point) p.state
 
 -- the turn that it begins, if it begins one
-abbrev pub turn_of_mark : ℕ → List Label
-turn_of_mark a = cond (a == 0) [] (Turn a ∷ [])
+abbrev pub turn_shown : ℕ → List Label
+turn_shown a = cond (a == 0) [] (Turn a ∷ [])
 
 abbrev pub turn_found : Marks → Option CodeBlock → List Label
 turn_found marks None = []
-turn_found marks (Some b) = turn_of_mark (marks b.number)
+turn_found marks (Some b) = turn_shown (marks b.number)
 
 abbrev pub turn_at : Marks → List CodeBlock → CodePoint → List Label
 turn_at marks code (AtNumber n) = turn_found marks (block_of_number n code)

@@ -1,39 +1,24 @@
 -- What the code of a lowered unit promises. All of this is own.
-use Rattle.std.specs.Prelude.{◌≡◌, ℕ, ◌+◌, ◌==◌, List, [], ◌∷◌, find, map, Option, Some, None}
+use Rattle.std.specs.Prelude.{ℕ, ◌+◌, List, [], ◌∷◌, map, None}
 use Rattle.outside.specs.Environment.{Environment, IsEnvironment}
 use Rattle.traces.specs.Turns.{RefinesByTurns}
 use Rattle.traces.specs.Agree.{outside_run}
 use Rattle.memory.specs.Memory.{Memory, HasBytes}
 use Rattle.x86_meaning.specs.Run.{IsStart}
 use Rattle.private_memory.specs.PrivateArea.{IsUsual}
-use Rattle.flag_ir.specs.declared.block.Block.{Block}
 use Rattle.flag_ir.specs.Entering.{CodeUnit}
 use Rattle.flag_ir.specs.UnitRun.{unit_run}
 use Rattle.flag_ir.specs.Shape.{Part}
 use Rattle.flag_ir.specs.Costs.{Costing, BoundsTurns}
 use Rattle.named_code.specs.declared.named.VBlock.{VBlock}
 use Rattle.named_code.specs.Items.{Item, named_item, named_blocks}
-use Rattle.named_code.specs.Running.{Marks}
 use Rattle.named_code.specs.CodeRun.{named_run}
 use Rattle.named_code.specs.Form.{IsCodeInForm}
 use Rattle.named_code.specs.Weight.{BoundsCode}
+use Rattle.instr_choose.specs.Marks.{HasNamesOf, marks_of}
+use Rattle.instr_choose.specs.Apart.{StaysApart}
 use Rattle.instr_choose.specs.Lists.{choose_op}
 use Rattle.instr_choose.specs.Blocks.{choose_exit}
-
--- ---- the number of a block and the address at which it begins a turn
-abbrev pub names_of : Block → ℕ × ℕ
-names_of b = (b.number, b.at)
-
-abbrev pub HasNamesOf : CodeUnit → List VBlock → Type 0
-HasNamesOf u code = map (λ (b : VBlock). (b.number, b.at)) code ≡ map names_of u.whole
-
--- ---- a block of the code begins a turn where the unit's block of its number does
-abbrev pub at_or_zero : Option Block → ℕ
-at_or_zero None = 0
-at_or_zero (Some b) = b.at
-
-abbrev pub marks_of : CodeUnit → Marks
-marks_of u n = at_or_zero (find (λ b. b.number == n) u.whole)
 
 -- ---- over every usual memory, from every start, the code does by turns what the unit does, and ends outside where the unit stops
 abbrev pub RefinesUnit : CodeUnit → List VBlock → Type 0
@@ -58,3 +43,4 @@ pub record Chooses (u : CodeUnit) (code : List VBlock) : Type 0 where
   pub ats : HasNamesOf u code
   pub keeps : RefinesUnit u code
   pub costs : CostsAsUnit u code
+  pub apart : StaysApart u code

@@ -3,6 +3,7 @@ pub mod Blocks
 pub mod Choosing
 pub mod ChosenLaw
 pub mod Lists
+pub mod Marks
 pub mod Relation
 pub mod SmallUnit
 pub mod States
