@@ -33,7 +33,7 @@ use Rattle.instr_choose.proofs.Naming.{code_of, among, number_found, address_fou
 use Rattle.instr_choose.proofs.Beginnings.{Begins, same, turn}
 use Rattle.instr_choose.proofs.UnitBlocks.{turn_of, begins}
 use Rattle.instr_choose.proofs.CodeBlocks.{inside_is, found, IsJump, no_block, block_begins}
-use Rattle.instr_choose.proofs.Tame.{IsTame, tame}
+use Rattle.instr_choose.proofs.PlainResults.{IsPlainResult, plain_result}
 use Rattle.instr_choose.proofs.SafeLists.{AreApart, op_path}
 use Rattle.instr_choose.proofs.Meets.{UnitLawsBelow, IsAsked, IsOr, unspecified_or, fresh_below}
 use Rattle.instr_choose.proofs.Starting.{point_from, first_is, first_below, first_unmapped}
@@ -51,8 +51,8 @@ module _ (laws : UnitLawsBelow) (u : CodeUnit) (asked : IsAsked u) (start : Unit
   abbrev UnitBy : List Label → ℕ → List Op → Exit → Storage → Type 0
   UnitBy = UnitAt laws u asked start apart
 
-  abbrev Excuse : List Label → Type 0
-  Excuse = Used laws u asked start apart
+  abbrev HasUsed : List Label → Type 0
+  HasUsed = Used laws u asked start apart
 
   abbrev Jumps : List Label → CodePoint → CodeState → Type 0
   Jumps = AtJump laws u asked start apart
@@ -73,7 +73,7 @@ module _ (laws : UnitLawsBelow) (u : CodeUnit) (asked : IsAsked u) (start : Unit
         by : (r : Result Storage End) → perform t o w ≡ r → Watched (map named_item (choose_op o) ++ (map named_item (choose_ops os) ++ map named_item (choose_exit e))) ls s
         by (Ok v) is =
             let met : PassesTo (map named_item (choose_op o)) s (shown_by o w) v = subst (λ r. IsMetByList r (shown_by o w) (map named_item (choose_op o)) s) is (laws.choosing.meets t o w s i f below) in
-            let kept : HasNoZero v.memory = subst IsTame is (tame laws.memory laws.below.calls t o w f no_zero) in
+            let kept : HasNoZero v.memory = subst IsPlainResult is (plain_result laws.memory laws.below.calls t o w f no_zero) in
             watched_path laws u asked start apart (map named_item (choose_op o)) (map named_item (choose_ops os) ++ map named_item (choose_exit e)) s met.state (shown_by o w) met.passes
             (op_path laws.below w t o s i f below (λ bad. absurd (let no : Ok v ≡ Err Unspecified = sym is ∙ bad in cc)) (unit_apart laws u asked start apart ls t (o ∷ os) e w h)) ls
             (behind v met.state (ls ++ shown_by o w) (unit_step laws u asked start apart ls t o os e w v h is) met.below kept)
@@ -88,7 +88,8 @@ module _ (laws : UnitLawsBelow) (u : CodeUnit) (asked : IsAsked u) (start : Unit
                 watched_end laws u asked start apart (map named_item (choose_op o)) (map named_item (choose_ops os) ++ map named_item (choose_exit e)) s d met
                 (op_path laws.below w t o s i f below (λ bad. other (let same : Err d ≡ Err Unspecified = sym is ∙ bad in cc)) (unit_apart laws u asked start apart ls t (o ∷ os) e w h)) ls
 
-    watched_ops : (ops : List Op) (w : Storage) (s : CodeState) (ls : List Label) → UnitBy ls t ops e w → All (IsOp 0) ops → All IsFrameless ops → IsBelow w s → HasNoZero w.memory → Watched (map named_item (choose_ops ops) ++ map named_item (choose_exit e)) ls s
+    watched_ops : (ops : List Op) (w : Storage) (s : CodeState) (ls : List Label) → UnitBy ls t ops e w → All (IsOp 0) ops → All IsFrameless ops → IsBelow w s → HasNoZero w.memory
+        → Watched (map named_item (choose_ops ops) ++ map named_item (choose_exit e)) ls s
     unfolding choose_ops
     watched_ops [] w s ls h i f below no_zero = watched_exit laws u asked start apart e t w s ls frameless form h below no_zero
     watched_ops (o ∷ os) w s ls h i f below no_zero =
@@ -96,7 +97,8 @@ module _ (laws : UnitLawsBelow) (u : CodeUnit) (asked : IsAsked u) (start : Unit
         (one_op o os w s ls h (All-head (IsOp 0) o os i) (All-head IsFrameless o os f) below no_zero (λ v c ks g b z. watched_ops os v c ks g (All-tail (IsOp 0) o os i) (All-tail IsFrameless o os f) b z))
 
   -- ---- a block
-  watched_block : (ls : List Label) (t k n : ℕ) (x : Storage) (s : CodeState) → Reaches (next u) start n ls (state_at t (Before k) x) → IsBelow x s → HasNoZero x.memory → (b : Block) → slice_get u.whole k ≡ Some b → Watched (code_of b).items (ls ++ turn_shown b.at) s
+  watched_block : (ls : List Label) (t k n : ℕ) (x : Storage) (s : CodeState) → Reaches (next u) start n ls (state_at t (Before k) x) → IsBelow x s → HasNoZero x.memory
+      → (b : Block) → slice_get u.whole k ≡ Some b → Watched (code_of b).items (ls ++ turn_shown b.at) s
   watched_block ls t k n x s reaches below no_zero b is =
       let frameless = All-contains IsFramelessBlock u.whole b (asked.form.lowered asked.low).blocks (among u.whole k b is) in
       let there : slice_get (blocks_of u x.frames) k ≡ Some b = ap (λ frames. slice_get (blocks_of u frames) k) below.frames ∙ is in
@@ -120,10 +122,10 @@ module _ (laws : UnitLawsBelow) (u : CodeUnit) (asked : IsAsked u) (start : Unit
   Tracked ls (AtOld a) s = Jumps ls (AtOld a) s
   Tracked ls (Inside items) s = Watched items ls s
 
-  tracked_excuse : (ls : List Label) (p : CodePoint) (s : CodeState) → Excuse ls → Tracked ls p s
-  tracked_excuse ls (AtNumber n) s h = excused h
-  tracked_excuse ls (AtOld a) s h = excused h
-  tracked_excuse ls (Inside items) s h = used_items laws u asked start apart items ls s h
+  tracked_used : (ls : List Label) (p : CodePoint) (s : CodeState) → HasUsed ls → Tracked ls p s
+  tracked_used ls (AtNumber n) s h = excused h
+  tracked_used ls (AtOld a) s h = excused h
+  tracked_used ls (Inside items) s h = used_items laws u asked start apart items ls s h
 
   tracked_behind : (xs : List Item) (ls : List Label) (p : CodePoint) (s : CodeState) → BehindItem laws u asked start apart (Watched xs) xs ls p s → Tracked ls p s
   tracked_behind xs ls (AtNumber n) s h = h
@@ -142,15 +144,16 @@ module _ (laws : UnitLawsBelow) (u : CodeUnit) (asked : IsAsked u) (start : Unit
     pub stands : machine (standing_at p s) ≡ Stand [] Outside
 
   abbrev IsAt : List Label → CodePoint → CodeState → Type 0
-  IsAt ls p s = Heads ls p s ⊎ (IsStill p s ⊎ Excuse ls)
+  IsAt ls p s = Heads ls p s ⊎ (IsStill p s ⊎ HasUsed ls)
 
-  abbrev Founds : CodePoint → Option CodeBlock
-  Founds p = found laws.code_runs (marks_of u) blocks p
+  abbrev block_found : CodePoint → Option CodeBlock
+  block_found p = found laws.code_runs (marks_of u) blocks p
 
-  block_heads : (ls : List Label) (p : CodePoint) (s : CodeState) → IsJump laws.code_runs (marks_of u) blocks p → items_at blocks p ≡ items_found (Founds p) → turn_at (marks_of u) blocks p ≡ turn_found (marks_of u) (Founds p) → (t k n : ℕ) (x : Storage) → Reaches (next u) start n ls (state_at t (Before k) x) → IsBelow x s → HasNoZero x.memory → Founds p ≡ option_map code_of (slice_get u.whole k) → IsAt ls p s
+  block_heads : (ls : List Label) (p : CodePoint) (s : CodeState) → IsJump laws.code_runs (marks_of u) blocks p → items_at blocks p ≡ items_found (block_found p)
+      → turn_at (marks_of u) blocks p ≡ turn_found (marks_of u) (block_found p) → (t k n : ℕ) (x : Storage) → Reaches (next u) start n ls (state_at t (Before k) x) → IsBelow x s → HasNoZero x.memory → block_found p ≡ option_map code_of (slice_get u.whole k) → IsAt ls p s
   block_heads ls p s jump items turns t k n x reaches below no_zero finds = cases (slice_get u.whole k) refl finds
     where
-      cases : (o : Option Block) → slice_get u.whole k ≡ o → Founds p ≡ option_map code_of o → IsAt ls p s
+      cases : (o : Option Block) → slice_get u.whole k ≡ o → block_found p ≡ option_map code_of o → IsAt ls p s
       cases (Some b) is f =
           let mark = mark_is u asked.form.whole.numbers k b is in
           let same_items : items_at blocks p ≡ (code_of b).items = items ∙ ap items_found f in
@@ -172,15 +175,15 @@ module _ (laws : UnitLawsBelow) (u : CodeUnit) (asked : IsAsked u) (start : Unit
   is_at ls (Inside items) s h = inl (record { turned = []; begun = same refl; is = refl; watched = subst (λ ks. Watched items ks s) (sym (append-nil ls)) h })
 
   -- ---- its accesses
-  first_apart : (xs : List Item) (ls ks : List Label) (s : CodeState) → ks ≡ ls → Watched xs ls s → AreApart s (first_accesses xs s) ⊎ Excuse ks
+  first_apart : (xs : List Item) (ls ks : List Label) (s : CodeState) → ks ≡ ls → Watched xs ls s → AreApart s (first_accesses xs s) ⊎ HasUsed ks
   first_apart [] ls ks s e h = inl (All-nil (IsApartAccess s.memory))
   first_apart (x ∷ xs) ls ks s e (inl h) = inl h.0
-  first_apart (x ∷ xs) ls ks s e (inr h) = inr (subst Excuse (sym e) h)
+  first_apart (x ∷ xs) ls ks s e (inr h) = inr (subst HasUsed (sym e) h)
 
-  apart_here : (ls : List Label) (p : CodePoint) (s : CodeState) → Tracked ls p s → AreApart s (first_accesses (items_at blocks p) s) ⊎ Excuse (ls ++ turn_at (marks_of u) blocks p)
+  apart_here : (ls : List Label) (p : CodePoint) (s : CodeState) → Tracked ls p s → AreApart s (first_accesses (items_at blocks p) s) ⊎ HasUsed (ls ++ turn_at (marks_of u) blocks p)
   apart_here ls p s h = by (is_at ls p s h)
     where
-      by : IsAt ls p s → AreApart s (first_accesses (items_at blocks p) s) ⊎ Excuse (ls ++ turn_at (marks_of u) blocks p)
+      by : IsAt ls p s → AreApart s (first_accesses (items_at blocks p) s) ⊎ HasUsed (ls ++ turn_at (marks_of u) blocks p)
       by (inl a) = first_apart (items_at blocks p) (ls ++ a.turned) (ls ++ turn_at (marks_of u) blocks p) s (ap (λ ks. ls ++ ks) a.is) a.watched
       by (inr (inl a)) = inl (subst (λ xs. AreApart s (first_accesses xs s)) (sym a.none) (All-nil (IsApartAccess s.memory)))
       by (inr (inr a)) = inr (used_more laws u asked start apart ls (turn_at (marks_of u) blocks p) a)
@@ -189,7 +192,7 @@ module _ (laws : UnitLawsBelow) (u : CodeUnit) (asked : IsAsked u) (start : Unit
   next_inside : (xs : List Item) (ls ks : List Label) (s : CodeState) (q : CodePosition) → Watched xs ls s → goes_on xs s ≡ Go ks q → Tracked (ls ++ ks) q.point q.state
   next_inside [] ls ks s q h g = absurd cc
   next_inside (x ∷ xs) ls ks s q (inl h) g = tracked_behind xs (ls ++ ks) q.point q.state (subst (Onto laws u asked start apart xs ls) g h.1)
-  next_inside (x ∷ xs) ls ks s q (inr h) g = tracked_excuse (ls ++ ks) q.point q.state (used_more laws u asked start apart ls ks h)
+  next_inside (x ∷ xs) ls ks s q (inr h) g = tracked_used (ls ++ ks) q.point q.state (used_more laws u asked start apart ls ks h)
 
   next_heads : (xs : List Item) (ls bs ks : List Label) (p : CodePosition) (s : CodeState) (q : CodePosition) → Begins machine p (standing_at (Inside xs) s) bs → Watched xs (ls ++ bs) s → machine p ≡ Go ks q → Tracked (ls ++ ks) q.point q.state
   next_heads xs ls _ ks p s q (same e) w g =
@@ -205,19 +208,21 @@ module _ (laws : UnitLawsBelow) (u : CodeUnit) (asked : IsAsked u) (start : Unit
       by : IsAt ls p s → Tracked (ls ++ ks) q.point q.state
       by (inl a) = next_heads (items_at blocks p) ls a.turned ks (standing_at p s) s q a.begun a.watched g
       by (inr (inl a)) = absurd (let no : Stand [] Outside ≡ Go ks q = sym a.stands ∙ g in cc)
-      by (inr (inr a)) = tracked_excuse (ls ++ ks) q.point q.state (used_more laws u asked start apart ls ks a)
+      by (inr (inr a)) = tracked_used (ls ++ ks) q.point q.state (used_more laws u asked start apart ls ks a)
 
   reach_tracked : (p q : CodePosition) (n : ℕ) (ks : List Label) → Reaches machine p n ks q → (ls : List Label) → Tracked ls p.point p.state → Tracked (ls ++ ks) q.point q.state
   reach_tracked _ q _ _ (rests _) ls h = subst (λ js. Tracked js q.point q.state) (sym (append-nil ls)) h
   reach_tracked _ q _ _ (goes s js t n rest _ e r) ls h =
       subst (λ zs. Tracked zs q.point q.state) (append_assoc ls js rest) (reach_tracked t q n rest r (ls ++ js) (next_tracked ls js s.point s.state t h e))
 
-  pub apart_reached : (p q : CodePosition) (n : ℕ) (ks : List Label) → Reaches machine p n ks q → Jumps [] p.point p.state → ((c : CodeState) → Jumps [] p.point c → Tracked [] p.point c) → AreApart q.state (position_accesses blocks q) ⊎ Excuse (ks ++ turn_at (marks_of u) blocks q.point)
+  pub apart_reached : (p q : CodePosition) (n : ℕ) (ks : List Label) → Reaches machine p n ks q → Jumps [] p.point p.state
+      → ((c : CodeState) → Jumps [] p.point c → Tracked [] p.point c) → AreApart q.state (position_accesses blocks q) ⊎ HasUsed (ks ++ turn_at (marks_of u) blocks q.point)
   apart_reached p q n ks r h k = apart_here ks q.point q.state (reach_tracked p q n ks r [] (k p.state h))
 
 -- ---- from each start
 module _ (laws : UnitLawsBelow) (u : CodeUnit) (asked : IsAsked u) where
-  first_jump : (m : Memory) (entry esp0 : ℕ) (stack : List ℕ) (env : Environment) (h : UnitIsApart u) (a : HasBytes m) (b : IsUsual esp0 m) (c : IsStart esp0 stack) (d : IsEnvironment env) → Jumps laws u asked (first_state u m entry esp0 stack env) (h m entry esp0 stack env a b c d) [] (AtOld entry) (first_code_state (with_stack esp0 stack m) esp0 env)
+  first_jump : (m : Memory) (entry esp0 : ℕ) (stack : List ℕ) (env : Environment) (h : UnitIsApart u) (a : HasBytes m) (b : IsUsual esp0 m) (c : IsStart esp0 stack) (d : IsEnvironment env)
+      → Jumps laws u asked (first_state u m entry esp0 stack env) (h m entry esp0 stack env a b c d) [] (AtOld entry) (first_code_state (with_stack esp0 stack m) esp0 env)
   first_jump m entry esp0 stack env h a b c d = by (index_at entry u.whole) refl
     where
       first : first_state u m entry esp0 stack env ≡ state_at 0 (point_from (index_at entry u.whole) entry) (first_storage m esp0 stack env)

@@ -18,7 +18,7 @@ pub mod Costing
 pub mod Beginnings
 pub mod UnitBlocks
 pub mod CodeBlocks
-pub mod Tame
+pub mod PlainResults
 pub mod Exits
 pub mod Bounding
 pub mod Meets

@@ -43,7 +43,7 @@ use Rattle.instr_choose.proofs.Forming.{begins}
 use Rattle.instr_choose.proofs.Beginnings.{IsStep, Begins, RunEnds, RunShows, step_rests, reach_go, reach_ends, reach_shows, begun_goes, begun_ends, begun_shows}
 use Rattle.instr_choose.proofs.UnitBlocks.{turn_of, block_goes, block_leaves, block_ends}
 use Rattle.instr_choose.proofs.CodeBlocks.{act_steps, inside_is, passes_reach, fails_ends, found, IsJump, no_block, block_begins}
-use Rattle.instr_choose.proofs.Tame.{IsTame, tame_all}
+use Rattle.instr_choose.proofs.PlainResults.{IsPlainResult, plain_results}
 use Rattle.instr_choose.proofs.Exits.{step, code_at, ExitMeets, exit_meets}
 
 pub record UnitLawsBelow : Type 0 where
@@ -232,21 +232,21 @@ module _ (laws : UnitLawsBelow) (u : CodeUnit) (asked : IsAsked u) where
     exit_by n q v first done (Err e) l h =
         both_by from to labels e (block_leaves laws.unit_runs laws.units u turn k b x there v e done l) (outer_shows n q first) (λ other. outer_ends n q (outside e) first (h other))
 
-    met_by : (r : Result Storage End) → performs t b.ops (fresh x) ≡ r → IsTame r → AreMetBy r shown op_items s → Both from to
-    met_by (Ok v) done tame h =
+    met_by : (r : Result Storage End) → performs t b.ops (fresh x) ≡ r → IsPlainResult r → AreMetBy r shown op_items s → Both from to
+    met_by (Ok v) done plain h =
         let first = passes_reach laws.code_runs (marks_of u) (code_blocks u.whole) op_items exit_items s h.state shown h.passes in
         exit_by first.0 _ v first.1 done (leave u t b.exit v) refl
-        (exit_meets laws.below laws.code_runs u (marks_of u) v h.state h.below tame t b.exit (asked.form.lowered asked.low).procs asked.low (asked.form.whole.exits b (among u.whole k b is)) frameless.exit)
-    met_by (Err e) ended tame h =
+        (exit_meets laws.below laws.code_runs u (marks_of u) v h.state h.below plain t b.exit (asked.form.lowered asked.low).procs asked.low (asked.form.whole.exits b (among u.whole k b is)) frameless.exit)
+    met_by (Err e) ended plain h =
         let split : op_items ++ exit_items ≡ h.front ++ (h.rest ++ exit_items) = ap (λ xs. xs ++ exit_items) h.is ∙ append_assoc h.front h.rest exit_items in
         let first = passes_reach laws.code_runs (marks_of u) (code_blocks u.whole) h.front (h.rest ++ exit_items) s h.state shown h.passes in
         let reaches = subst (λ xs. Reaches target (code_at laws.below laws.code_runs u (marks_of u) xs s) first.0 shown (code_at laws.below laws.code_runs u (marks_of u) (h.rest ++ exit_items) h.state)) (sym split) first.1 in
         both_by from to labels e (block_ends laws.unit_runs laws.units u turn k b x there e ended) (outer_shows first.0 _ reaches)
-        (λ other. outer_ends first.0 _ (outside e) reaches (subst (λ f. RunEnds target (code_at laws.below laws.code_runs u (marks_of u) (h.rest ++ exit_items) h.state) [] f) (sym tame) (fails_ends laws.code_runs (marks_of u) (code_blocks u.whole) h.rest exit_items h.state e (h.fails other))))
+        (λ other. outer_ends first.0 _ (outside e) reaches (subst (λ f. RunEnds target (code_at laws.below laws.code_runs u (marks_of u) (h.rest ++ exit_items) h.state) [] f) (sym plain) (fails_ends laws.code_runs (marks_of u) (code_blocks u.whole) h.rest exit_items h.state e (h.fails other))))
 
     block_meets : Both from to
     block_meets =
-        met_by (performs t b.ops (fresh x)) refl (tame_all laws.memory laws.below.calls t b.ops (fresh x) frameless.ops no_zero)
+        met_by (performs t b.ops (fresh x)) refl (plain_results laws.memory laws.below.calls t b.ops (fresh x) frameless.ops no_zero)
         (laws.choosing.lists_meet t b.ops (fresh x) s (asked.form.whole.ops b (among u.whole k b is)) frameless.ops (fresh_below x s below))
 
   -- ---- the meeting

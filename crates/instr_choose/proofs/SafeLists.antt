@@ -166,17 +166,20 @@ module _ (laws : LawsBelow) (u : Storage) where
   if_known None f P never h = absurd (never refl)
   if_known (Some a) f P never h = h a refl
 
-  load_path : (w : Width) (to : Var) (at : Term) (f : ℕ → Result Storage End) (s : CodeState) → IsTerm 0 at → IsBelow u s → (and_then (needed (known (term_in at u))) f ≡ Err Unspecified → ⊥) → UnitApart (accessed Load (size_of w) (known (term_in at u))) → IsSafePath (map named_item (load_by w (slot_of to) at ∷ [])) s
+  load_path : (w : Width) (to : Var) (at : Term) (f : ℕ → Result Storage End) (s : CodeState) → IsTerm 0 at → IsBelow u s → (and_then (needed (known (term_in at u))) f ≡ Err Unspecified → ⊥)
+      → UnitApart (accessed Load (size_of w) (known (term_in at u))) → IsSafePath (map named_item (load_by w (slot_of to) at ∷ [])) s
   load_path w to at f s i h never apart =
       if_known (known (term_in at u)) f _ never
       (λ a e. (one_moved s (load_access w a) _ (load_accesses w (slot_of to) at s a (address_is laws at u s a i h e)) h.memory (subst (λ o. UnitApart (accessed Load (size_of w) o)) e apart), λ ls t g. tt))
 
-  store_item : (w : Width) (at : Term) (from : Option Var) (f : ℕ → Result Storage End) (s : CodeState) → IsTerm 0 at → IsBelow u s → (and_then (needed (known (term_in at u))) f ≡ Err Unspecified → ⊥) → UnitApart (accessed Store (size_of w) (known (term_in at u))) → IsSafePath (named_item (store_by w at (from_of from)) ∷ []) s
+  store_item : (w : Width) (at : Term) (from : Option Var) (f : ℕ → Result Storage End) (s : CodeState) → IsTerm 0 at → IsBelow u s → (and_then (needed (known (term_in at u))) f ≡ Err Unspecified → ⊥)
+      → UnitApart (accessed Store (size_of w) (known (term_in at u))) → IsSafePath (named_item (store_by w at (from_of from)) ∷ []) s
   store_item w at from f s i h never apart =
       if_known (known (term_in at u)) f _ never
       (λ a e. (one_moved s (store_access w a) _ (store_accesses w at from s a (address_is laws at u s a i h e)) h.memory (subst (λ o. UnitApart (accessed Store (size_of w) o)) e apart), λ ls t g. tt))
 
-  store_path : (w : Width) (at from : Term) (f : ℕ → Result Storage End) (s : CodeState) → IsTerm 0 at → IsBelow u s → (and_then (needed (known (term_in at u))) f ≡ Err Unspecified → ⊥) → UnitApart (accessed Store (size_of w) (known (term_in at u))) → IsSafePath (map named_item (choose_store w at from)) s
+  store_path : (w : Width) (at from : Term) (f : ℕ → Result Storage End) (s : CodeState) → IsTerm 0 at → IsBelow u s → (and_then (needed (known (term_in at u))) f ≡ Err Unspecified → ⊥)
+      → UnitApart (accessed Store (size_of w) (known (term_in at u))) → IsSafePath (map named_item (choose_store w at from)) s
   store_path w at (term.Var v) f s i h never apart = store_item w at (Some v) f s i h never apart
   store_path w at (term.Word n) f s i h never apart =
       path_then (named_item (put (Fixed Eax) (term.Word n))) (named_item (store_by w at (Fixed Eax)) ∷ []) s (with_place 0 (word_of n) s) (none_apart s _ (put_quiet (Fixed Eax) (term.Word n) s)) (put_is (Fixed Eax) (term.Word n) s)

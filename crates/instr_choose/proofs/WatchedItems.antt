@@ -180,7 +180,8 @@ module _ (laws : UnitLawsBelow) (u : CodeUnit) (asked : IsAsked u) (start : Unit
   more_nil ls = sym (append-nil ls)
 
   -- a jump by number
-  watched_jump : (t : ℕ) (e : Exit) (v : Storage) (s c : CodeState) → IsBelow v s → HasNoZero v.memory → (n : ℕ) → IsBelow v c → leave u t e v ≡ to_number u n v → (ls : List Label) → UnitAt ls t [] e v → IsWatched (named_item (made (instr.Jmp n) []) ∷ []) ls c
+  watched_jump : (t : ℕ) (e : Exit) (v : Storage) (s c : CodeState) → IsBelow v s → HasNoZero v.memory → (n : ℕ) → IsBelow v c → leave u t e v ≡ to_number u n v
+      → (ls : List Label) → UnitAt ls t [] e v → IsWatched (named_item (made (instr.Jmp n) []) ∷ []) ls c
   watched_jump t e v s c below no_zero n under l ls h =
       inl (none_apart c _ (jump_quiet n c), subst (Onto [] ls) (sym (jump_is n [] c)) (number_jump t e v s below no_zero n c under l (ls ++ []) (relabel ls (ls ++ []) t [] e v (more_nil ls) h)))
 
@@ -249,7 +250,8 @@ module _ (laws : UnitLawsBelow) (u : CodeUnit) (asked : IsAsked u) (start : Unit
       subst (AreApart s) (sym (load_accesses Four (Fixed Eax) (term.Word 0) s 0 (laws.below.words.known_word 0 (omega arith), omega arith)))
       (All-cons (IsApartAccess s.memory) _ [] (record { elsewhere = λ all. absurd (let no : true ≡ false = sym all ∙ zero_refused laws.below laws.code_runs u (marks_of u) v s below no_zero in cc) }) (All-nil (IsApartAccess s.memory)))
 
-  pub watched_exit : (e : Exit) (t : ℕ) (v : Storage) (s : CodeState) (ls : List Label) → IsFramelessExit e → IsExit 0 (length u.whole) u.procs e → UnitAt ls t [] e v → IsBelow v s → HasNoZero v.memory → IsWatched (exit_items e) ls s
+  pub watched_exit : (e : Exit) (t : ℕ) (v : Storage) (s : CodeState) (ls : List Label) → IsFramelessExit e → IsExit 0 (length u.whole) u.procs e → UnitAt ls t [] e v
+      → IsBelow v s → HasNoZero v.memory → IsWatched (exit_items e) ls s
   unfolding leave choose_exit
   watched_exit (exit.Go n) t v s ls f i h below no_zero = watched_jump t (exit.Go n) v s s below no_zero n below refl ls h
   watched_exit (exit.Branch test m n) t v s ls f i h below no_zero = watched_branch t v s below no_zero test m n i.0 ls h
