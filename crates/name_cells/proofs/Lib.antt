@@ -1,1 +1,4 @@
 pub mod Growing
+pub mod FewItems
+pub mod SmallCodes
+pub mod PairedPlaces

@@ -1,5 +1,5 @@
 -- Which code can be placed with its names in cells: what `choose` gives. All of this is own.
-use Rattle.std.specs.Prelude.{◌≡◌, ◌≢◌, ℕ, ◌<◌, Bool, true, false, is_some, List, All, Contains, Some}
+use Rattle.std.specs.Prelude.{◌≡◌, ◌≢◌, ℕ, ◌<◌, ◌≤◌, Bool, true, false, is_some, List, [], ◌∷◌, length, All, ◌⊎◌}
 use Rattle.x86_types.specs.declared.operand.Reg.{Reg}
 use Rattle.x86_types.specs.declared.operand.Reg.TheVariants.{Ebx}
 use Rattle.x86_types.specs.declared.instr.Instr.{Instr}
@@ -26,6 +26,11 @@ FitsField slots Whole s = Unit {0}
 FitsField slots Byte (Fixed r) = Unit {0}
 FitsField slots Byte (Name n) = is_last (last_name slots) n ≡ true
 
+-- a name is one of the slots
+abbrev pub HasName : ℕ → List Slot → Type 0
+HasName n [] = ⊥
+HasName n (s ∷ slots) = (s ≡ Name n) ⊎ HasName n slots
+
 -- a field is one of the first three
 pub record IsFieldPlaceable (slots : List Slot) (f : Field) : Type 0 where
   pub early : number_of_reg f.register < 3
@@ -50,12 +55,13 @@ pub record LeavesEbx (x : VInstr) : Type 0 where
   pub implicit : All (λ n. n < 3) (implicit_registers x.instr)
 
 pub record IsInstrPlaceable (x : VInstr) : Type 0 where
+  pub few : length x.slots ≤ 3
   pub slots : All IsPlaceable x.slots
   pub by_field : All (IsFieldPlaceable x.slots) (fields x.instr)
   -- without a field it uses none but EAX, ECX, EDX and EBX
   pub implicit : All (λ n. n < 4) (implicit_registers x.instr)
   -- it has at most two names
-  pub two : (n m : ℕ) → Contains x.slots (Name n) → Contains x.slots (Name m) → is_last (last_name x.slots) n ≡ false → is_last (last_name x.slots) m ≡ false → n ≡ m
+  pub two : (n m : ℕ) → HasName n x.slots → HasName m x.slots → is_last (last_name x.slots) n ≡ false → is_last (last_name x.slots) m ≡ false → n ≡ m
   pub ebx : borrows_ebx x ≡ true → LeavesEbx x
   pub falls : is_some (last_name x.slots) ≡ true → IsFalling x.instr
 

@@ -3,3 +3,6 @@ pub mod Holders
 pub mod Renaming
 pub mod Placing
 pub mod CanBePlaced
+pub mod Pairs
+pub mod CellLaws
+pub mod SmallCode

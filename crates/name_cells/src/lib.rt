@@ -4,7 +4,11 @@
 mod cells;
 mod holders;
 mod items;
+mod laws;
 mod placing;
 mod renaming;
+#[cfg(test)]
+mod tests;
 
+pub use laws::cell_laws;
 pub use placing::in_cells;
