@@ -8,7 +8,6 @@ use Rattle.named_code.specs.declared.placed.PInstr.{PInstr}
 use Rattle.name_cells.specs.Holders.{has_byte_field, last_name, borrows_ebx}
 use Rattle.name_cells.specs.Placing.{fetch_slot, keep_slot, fetches, keeps, own, lend, give_back, place_instr}
 use Rattle.name_cells.specs.CanBePlaced.{IsInstrPlaceable}
-use Rattle.name_cells.specs.CellLaws.{CellLaws}
 
 -- a list of lists of at most one element is no longer than what it is made from
 flat_few : {X A : Type 0} (f : X → List A) → ((x : X) → length (f x) ≤ 1) → (xs : List X) → length (flat_map f xs) ≤ length xs
@@ -45,12 +44,9 @@ five_few is bs d es fs h1 h2 h3 h4 =
 below_three : (n m : ℕ) → n ≤ m → m ≤ 3 → n ≤ 3
 below_three n m h k = omega arith
 
-few_items : (spare : ℕ) (x : VInstr) → IsInstrPlaceable x → length (place_instr spare x) ≤ 9
+pub few_items : (spare : ℕ) (x : VInstr) → IsInstrPlaceable x → length (place_instr spare x) ≤ 9
 few_items spare x h =
     let byte = has_byte_field x.instr in
     let last = last_name x.slots in
     five_few (lend (borrows_ebx x) spare) (fetches byte last x.slots) (own x) (keeps byte last x.slots) (give_back (borrows_ebx x) spare)
     (lend_one (borrows_ebx x) spare) (below_three _ _ (flat_few (fetch_slot byte last) (fetch_one byte last) x.slots) h.few) (below_three _ _ (flat_few (keep_slot byte last) (keep_one byte last) x.slots) h.few) (give_one (borrows_ebx x) spare)
-
-pub cell_laws : CellLaws
-cell_laws = record { few_items = few_items }

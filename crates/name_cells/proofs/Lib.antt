@@ -2,3 +2,5 @@ pub mod Growing
 pub mod FewItems
 pub mod SmallCodes
 pub mod PairedPlaces
+pub mod ByteFields
+pub mod OwnItems

@@ -1,6 +1,6 @@
 pub mod Cells
-pub mod Holders
 pub mod Renaming
+pub mod Holders
 pub mod Placing
 pub mod CanBePlaced
 pub mod Pairs
