@@ -4,3 +4,5 @@ pub mod SmallCodes
 pub mod PairedPlaces
 pub mod ByteFields
 pub mod OwnItems
+pub mod CellMoves
+pub mod MovedNames

@@ -87,14 +87,14 @@ module _ (x : VInstr) (h : IsInstrPlaceable x) where
   last = last_name x.slots
 
   -- two names with one holder are one
-  same_name : (n m : ℕ) → HasName n x.slots → HasName m x.slots → number_of_reg (holder byte last n) ≡ number_of_reg (holder byte last m) → n ≡ m
+  pub same_name : (n m : ℕ) → HasName n x.slots → HasName m x.slots → number_of_reg (holder byte last n) ≡ number_of_reg (holder byte last m) → n ≡ m
   same_name n m k l e = by (is_last last n) (is_last last m) refl refl (same_held (is_last last n) (is_last last m) byte e)
     where
       by : (a b : Bool) → is_last last n ≡ a → is_last last m ≡ b → is_last last n ≡ is_last last m → n ≡ m
       by true b f g s = last_once last n m f (sym s ∙ f)
       by false b f g s = h.two n m k l f (sym s ∙ f)
 
-  clash : (p n : ℕ) → p ≡ number_of_reg (holder byte last n) → p < 4 → (borrows_ebx x ≡ true → p < 3) → ⊥
+  pub clash : (p n : ℕ) → p ≡ number_of_reg (holder byte last n) → p < 4 → (borrows_ebx x ≡ true → p < 3) → ⊥
   clash p n e low below =
       let l = low_held (is_last last n) byte (subst (λ (k : ℕ). k < 4) e low) in
       let borrows : borrows_ebx x ≡ true = rw (l.1, some_last last n l.0) refl in

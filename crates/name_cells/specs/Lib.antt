@@ -4,5 +4,6 @@ pub mod Holders
 pub mod Placing
 pub mod CanBePlaced
 pub mod Pairs
+pub mod MovedNames
 pub mod CellLaws
 pub mod SmallCode

@@ -2,11 +2,15 @@
 ghost use Rattle.name_cells.specs.CellLaws.{CellLaws};
 
 use field_places::field_place_laws;
+use memory::memory_laws;
+use private_memory::private_access_laws;
 
-/// Its clause is the laws of code whose names live in cells: an instruction has at most eight MOVs beside it, and its own item does
-/// over the registers that hold its names what the instruction does over the names.
+/// Its clause is the laws of code whose names live in cells: an instruction has at most eight MOVs beside it; those before it bring
+/// its names to registers, its own item does over these what the instruction does over the names, and those behind it bring them back.
 pub fn cell_laws()
     ensures { CellLaws }
 {
     field_place_laws();
+    memory_laws();
+    private_access_laws();
 }

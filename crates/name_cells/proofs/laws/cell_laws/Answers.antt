@@ -1,6 +1,20 @@
 use Rattle.name_cells.proofs.FewItems.{few_items}
 use Rattle.name_cells.proofs.OwnItems.{own_accesses, own_effect}
+use Rattle.name_cells.proofs.CellMoves.{fetches_run, keeps_run}
+use Rattle.name_cells.proofs.MovedNames.{fetched_alike, kept_there, kept_elsewhere}
 use Rattle.name_cells.proofs.laws.cell_laws.Goals as goal
 
 pub returns : goal.returns
-returns c = record { few_items = few_items; own_accesses = own_accesses c.field_place_laws.ensures; own_effect = own_effect c.field_place_laws.ensures }
+returns c =
+    let memories = c.memory_laws.ensures in
+    let areas = c.private_access_laws.ensures in
+    record {
+      few_items = few_items;
+      own_accesses = own_accesses c.field_place_laws.ensures;
+      own_effect = own_effect c.field_place_laws.ensures;
+      fetches_run = λ marks code count byte last slots rest t small. fetches_run memories areas marks code count small byte last rest slots t;
+      keeps_run = λ marks code count byte last slots rest t small. keeps_run memories areas marks code count small byte last rest slots t;
+      fetched_alike = fetched_alike;
+      kept_there = kept_there memories areas;
+      kept_elsewhere = kept_elsewhere memories areas;
+    }
