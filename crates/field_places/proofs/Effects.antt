@@ -1,19 +1,17 @@
 -- The accesses and the effects of an instruction over places that are paired.
-use Rattle.std.proofs.Common.{◌≡◌, ◌⊎◌, inl, inr, ℕ, ◌==◌, Bool, true, false, cond, List, [], ◌∷◌, ◌++◌, take, Option, Some, None, Ok, Err, refl, sym, ap, ◌∙◌}
+use Rattle.std.proofs.Common.{◌≡◌, ◌⊎◌, inl, inr, ℕ, ◌==◌, Bool, true, false, cond, List, [], ◌∷◌, take, Option, Some, None, Ok, Err, refl, ap, ◌∙◌}
 use Rattle.std.proofs.lemmas.Bool.Decides.{eqb_tells}
 use Rattle.x86_values.specs.declared.word.Word.{Word}
 use Rattle.x86_values.specs.declared.word.Flags.{Flags}
 use Rattle.x86_values.specs.Words.{padded, word_list}
 use Rattle.memory.specs.Memory.{Memory, AccessKind, Load, Store}
 use Rattle.x86_types.specs.declared.instr.Instr.{Instr}
-use Rattle.x86_meaning.specs.Registers.{Registers, Processor, Naming, with_register, with_bytes}
+use Rattle.x86_meaning.specs.Registers.{Registers, Naming, with_register, with_bytes}
 use Rattle.x86_meaning.specs.Operands.{Location, InRegister, InMemory, Constant, SizedOperand, Access, access, accesses_of, bytes_in, value_in, values_in}
 use Rattle.x86_meaning.specs.TransferShapes.{Transfer}
-use Rattle.x86_meaning.specs.Transfers.{transfer}
 use Rattle.x86_meaning.specs.Outcomes.{Computation}
-use Rattle.x86_meaning.specs.Computing.{compute}
 use Rattle.x86_meaning.specs.Effect.{Effect, transfer_accesses, accesses, written_to, all_written, effect_of, effect_by, effect}
-use Rattle.field_places.specs.Pairs.{Pairs, ArePaired, IsOneToOne, HoldTheSame, UsesPairs, EffectsAlike, ResultsAlike}
+use Rattle.field_places.specs.Pairs.{Pairs, IsOneToOne, HoldTheSame, UsesPairs, EffectsAlike, ResultsAlike}
 use Rattle.field_places.specs.FieldPlaceLaws.{FieldPlaceLaws, processor}
 use Rattle.field_places.proofs.Places.{Both, SameLocation, SameOperands, SameTransfer, with_the_same}
 use Rattle.field_places.proofs.SameTransfers.{transfer_same}

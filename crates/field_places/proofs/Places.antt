@@ -1,8 +1,8 @@
 -- Operands at places that are paired.
-use Rattle.std.proofs.Common.{◌≡◌, ◌⊎◌, inl, inr, ℕ, ◌==◌, ◌&&◌, Bool, true, false, cond, List, [], ◌∷◌, ◌++◌, Option, Some, None, refl, sym, ap, ◌∙◌, subst}
+use Rattle.std.proofs.Common.{◌≡◌, ◌⊎◌, inl, inr, ℕ, ◌==◌, Bool, true, false, cond, List, [], ◌∷◌, ◌++◌, Option, Some, None, refl, sym, ap, ◌∙◌, subst}
 use Rattle.std.proofs.lemmas.Bool.Decides.{eqb_tells}
 use Rattle.std.specs.Option.{option_map}
-use Rattle.x86_values.specs.Words.{word_of, known}
+use Rattle.x86_values.specs.Words.{known}
 use Rattle.x86_types.specs.declared.operand.Reg.{Reg}
 use Rattle.x86_types.specs.declared.operand.Address.{Address}
 use Rattle.x86_types.specs.declared.operand.Rm.{Rm}
@@ -11,11 +11,11 @@ use Rattle.x86_types.specs.declared.operand.Src.{Src}
 use Rattle.x86_types.specs.declared.operand.Src.TheVariants as src
 use Rattle.x86_types.specs.declared.width.Width.{Width}
 use Rattle.x86_types.specs.declared.width.Width.TheVariants.{One, Two, Four}
-use Rattle.x86_types.specs.Registers.{RegisterField, Index, Whole, Byte, field_of}
+use Rattle.x86_types.specs.Registers.{Index, Whole, field_of}
 use Rattle.x86_values.specs.declared.word.Word.{Word}
 use Rattle.x86_meaning.specs.Registers.{Registers, Naming, with_register}
-use Rattle.x86_meaning.specs.Operands.{Location, InRegister, InMemory, Constant, SizedOperand, field, address_part, address_sum, effective_address, location_of, source_of}
-use Rattle.x86_meaning.specs.TransferShapes.{Transfer, is_same_register, esp_raised, up}
+use Rattle.x86_meaning.specs.Operands.{Location, InRegister, InMemory, Constant, SizedOperand, field, address_part, effective_address, location_of, source_of}
+use Rattle.x86_meaning.specs.TransferShapes.{Transfer, is_same_register}
 use Rattle.field_places.specs.Fields.{Field, if_some, address_fields, rm_fields, src_fields}
 use Rattle.field_places.specs.Pairs.{Pairs, ArePaired, IsOneToOne, HoldTheSame, KindIsPaired, FieldsArePaired}
 

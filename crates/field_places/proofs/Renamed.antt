@@ -19,9 +19,8 @@ use Rattle.x86_types.specs.Registers.{Whole, Index, Renaming, field_of, renamed,
 use Rattle.memory.specs.Memory.{Memory}
 use Rattle.x86_meaning.specs.Registers.{Registers, Processor, Naming}
 use Rattle.x86_meaning.specs.Operands.{Location, InMemory, Constant, field, address_part, effective_address, location_of, source_of}
-use Rattle.x86_meaning.specs.TransferShapes.{Transfer, by_one, by_two, move_transfer, combine_transfer, multiply_by_transfer, exchange_transfer, double_shift_transfer, update_transfer, push_of, pop_to, esp_raised}
+use Rattle.x86_meaning.specs.TransferShapes.{Transfer, by_one, by_two, move_transfer, combine_transfer, multiply_by_transfer, exchange_transfer, double_shift_transfer, push_of, pop_to, esp_raised}
 use Rattle.x86_meaning.specs.Transfers.{transfer}
-use Rattle.x86_meaning.specs.Outcomes.{Computation}
 use Rattle.x86_meaning.specs.Computing.{compute}
 use Rattle.x86_meaning.specs.Effect.{transfer_accesses, accesses, effect_of, effect_by, effect}
 use Rattle.field_places.specs.Pairs.{KnowsNoIndex, renamed_naming}

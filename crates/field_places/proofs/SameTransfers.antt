@@ -7,15 +7,15 @@ use Rattle.x86_types.specs.declared.operand.Src.{Src}
 use Rattle.x86_types.specs.declared.instr.Instr.{Instr}
 use Rattle.x86_types.specs.declared.instr.Instr.TheVariants as instr
 use Rattle.x86_types.specs.declared.width.Width.{Width}
-use Rattle.x86_types.specs.declared.width.Width.TheVariants.{One, Two, Four}
+use Rattle.x86_types.specs.declared.width.Width.TheVariants.{One, Four}
 use Rattle.x86_types.specs.Numbers.{size_of}
-use Rattle.x86_types.specs.Registers.{Whole, field_of}
-use Rattle.x86_meaning.specs.Registers.{Registers, Naming, with_register}
+use Rattle.x86_types.specs.Registers.{Whole}
+use Rattle.x86_meaning.specs.Registers.{Registers, Naming}
 use Rattle.x86_meaning.specs.Operands.{Location, Constant, SizedOperand, field, effective_address, location_of, source_of}
-use Rattle.x86_meaning.specs.TransferShapes.{Transfer, by_one, by_two, pop_to, esp_raised, up, leave_transfer, push_transfer, pop_transfer, movs_transfer, stos_transfer, string_transfer, move_transfer, exchange_transfer, update_transfer, set_transfer, read_transfer, compare_transfer, combine_transfer, multiply_by_transfer}
+use Rattle.x86_meaning.specs.TransferShapes.{Transfer, by_one, by_two, pop_to, esp_raised, up, movs_transfer, stos_transfer, string_transfer, move_transfer, exchange_transfer, update_transfer, set_transfer, read_transfer, compare_transfer, combine_transfer, multiply_by_transfer}
 use Rattle.x86_meaning.specs.Transfers.{transfer}
-use Rattle.field_places.specs.Fields.{Field, fields, implicit_registers, sized_field, as_field, repeat_registers, address_fields, rm_fields, src_fields}
-use Rattle.field_places.specs.Pairs.{Pairs, ArePaired, IsOneToOne, HoldTheSame, KindIsPaired, FieldsArePaired, PairedWithThemselves, UsesPairs}
+use Rattle.field_places.specs.Fields.{Field, fields, implicit_registers, sized_field, as_field, repeat_registers, rm_fields, src_fields}
+use Rattle.field_places.specs.Pairs.{Pairs, ArePaired, IsOneToOne, HoldTheSame, FieldsArePaired, PairedWithThemselves}
 use Rattle.field_places.proofs.Places.{Both, SameLocation, SameOperands, SameTransfer, with_the_same, first_fields, last_fields, field_same, address_same, location_same, source_same}
 use Rattle.field_places.proofs.Shapes.{itself, one, two, alu_same, multiply_same, divide_same, shift_same, double_shift_same, push_same, push_of_same, pop_same, pop_to_same, leave_same, movs_same, stos_same, string_same}
 

@@ -7,8 +7,8 @@ use Rattle.x86_types.specs.declared.operation.Count.TheVariants as count
 use Rattle.x86_types.specs.declared.width.Width.{Width}
 use Rattle.x86_types.specs.declared.width.Width.TheVariants.{One, Two, Four}
 use Rattle.x86_types.specs.Numbers.{size_of}
-use Rattle.x86_meaning.specs.Operands.{Location, InRegister, InMemory, Constant, SizedOperand, operand}
-use Rattle.x86_meaning.specs.TransferShapes.{Transfer, by_one, by_two, register, esp, accumulator, upper_accumulator, count_operand, cancels, is_same_register, alu_reads, alu_writes, alu_transfer, multiply_transfer, divide_transfer, shift_transfer, double_shift_transfer, push_transfer, push_of, pop_transfer, pop_to, leave_transfer, movs_transfer, stos_transfer, if_counted, string_transfer}
+use Rattle.x86_meaning.specs.Operands.{Location, InRegister, SizedOperand, operand}
+use Rattle.x86_meaning.specs.TransferShapes.{Transfer, by_one, by_two, register, accumulator, upper_accumulator, count_operand, cancels, is_same_register, alu_writes, alu_transfer, multiply_transfer, divide_transfer, shift_transfer, double_shift_transfer, push_transfer, push_of, pop_transfer, pop_to, leave_transfer, movs_transfer, stos_transfer, if_counted, string_transfer}
 use Rattle.field_places.specs.Fields.{product_registers, count_registers, repeat_registers}
 use Rattle.field_places.specs.Pairs.{Pairs, ArePaired, IsOneToOne, PairedWithThemselves}
 use Rattle.field_places.proofs.Places.{Both, SameLocation, SameOperands, SameTransfer, same_register}

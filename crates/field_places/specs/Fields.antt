@@ -1,6 +1,6 @@
 -- The register fields of instructions, and the registers that instructions use without a field (Intel SDM volume 2, section 2.1.5, and
 -- "Operation" of each instruction). Each instruction has its line, so that one that is left out is seen.
-use Rattle.std.specs.Prelude.{ℕ, Bool, true, false, List, [], ◌∷◌, ◌++◌, map, Option, Some, None}
+use Rattle.std.specs.Prelude.{ℕ, Bool, true, false, List, [], ◌∷◌, ◌++◌, Option, Some, None}
 use Rattle.x86_types.specs.declared.instr.Instr.{Instr}
 use Rattle.x86_types.specs.declared.instr.Instr.TheVariants as instr
 use Rattle.x86_types.specs.declared.operand.Address.{Address}

@@ -1,12 +1,12 @@
 -- The moves between cells and registers.
-use Rattle.std.proofs.Common.{◌≡◌, ◌⊎◌, inl, inr, ℕ, zero, suc, ◌+◌, ◌*◌, ◌%◌, ◌<◌, ◌≤◌, ◌&&◌, Bool, true, false, List, [], ◌∷◌, ◌++◌, map, flat_map, length, slice_get, Option, Some, None, refl, sym, ap, ◌∙◌, subst, arith}
+use Rattle.std.proofs.Common.{◌≡◌, inl, inr, ℕ, zero, suc, ◌+◌, ◌*◌, ◌%◌, ◌<◌, ◌≤◌, ◌&&◌, Bool, true, false, List, [], ◌∷◌, ◌++◌, map, length, slice_get, Option, Some, None, refl, ap, ◌∙◌, arith}
 use Rattle.std.specs.Option.{option_map}
 use Rattle.std.specs.List.{range_with_len}
 use Rattle.traces.specs.Trace.{Move, Go}
 use Rattle.traces.specs.Steps.{Reaches, rests, goes}
 use Rattle.x86_values.specs.declared.word.Word.{Word}
 use Rattle.x86_values.specs.Words.{padded, word_list}
-use Rattle.memory.specs.Memory.{Memory, Place, AccessKind, Load, Store, allows_all, bytes_at, put_all, kind_of}
+use Rattle.memory.specs.Memory.{Memory, Place, Load, Store, allows_all, bytes_at, put_all, kind_of}
 use Rattle.memory.specs.MemoryLaws.{MemoryLaws}
 use Rattle.x86_types.specs.declared.operand.Reg.{Reg}
 use Rattle.x86_types.specs.Numbers.{number_of_reg}
@@ -22,12 +22,11 @@ use Rattle.private_memory.specs.PrivateArea.{HasPrivateArea}
 use Rattle.private_memory.specs.PrivateAreaLaws.{PrivateAccessLaws}
 use Rattle.named_code.specs.declared.slot.Slot.{Slot}
 use Rattle.named_code.specs.declared.slot.Slot.TheVariants.{Fixed, Name}
-use Rattle.named_code.specs.declared.placed.Home.{Home}
 use Rattle.named_code.specs.Items.{Item, CodeBlock, fetch_from, keep_to, cell_or, cell_of, placed_item}
 use Rattle.named_code.specs.Running.{CodeState, CodePosition, Inside, Marks, standing_at, by_loads, act, code_next}
 use Rattle.name_cells.specs.Cells.{cell_at, home_at, homes_of}
 use Rattle.name_cells.specs.Holders.{holder}
-use Rattle.name_cells.specs.Placing.{fetch_slot, keep_slot, fetches, keeps}
+use Rattle.name_cells.specs.Placing.{fetches, keeps}
 use Rattle.name_cells.specs.MovedNames.{fetched, kept, with_fetched, with_kept, HaveCells}
 use Rattle.name_cells.specs.CellLaws.{before_items}
 

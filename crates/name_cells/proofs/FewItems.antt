@@ -1,5 +1,5 @@
 -- How many items an instruction has.
-use Rattle.std.proofs.Common.{◌≡◌, ℕ, ◌+◌, ◌*◌, ◌≤◌, Bool, true, false, cond, List, [], ◌∷◌, ◌++◌, length, flat_map, Option, refl, sym, ap, ◌∙◌, subst, arith}
+use Rattle.std.proofs.Common.{◌≡◌, ℕ, ◌+◌, ◌≤◌, Bool, true, false, List, [], ◌∷◌, ◌++◌, length, flat_map, Option, arith}
 use Rattle.std.proofs.lemmas.List.{length-append}
 use Rattle.named_code.specs.declared.slot.Slot.{Slot}
 use Rattle.named_code.specs.declared.slot.Slot.TheVariants.{Fixed, Name}

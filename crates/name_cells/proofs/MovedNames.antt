@@ -1,9 +1,9 @@
 -- What stands in registers and in cells after the moves.
-use Rattle.std.proofs.Common.{◌≡◌, ◌≢◌, ◌⊎◌, inl, inr, ℕ, ◌+◌, ◌*◌, ◌<◌, ◌≤◌, ◌==◌, Bool, true, false, cond, List, [], ◌∷◌, length, Option, refl, sym, ap, ◌∙◌, subst, arith}
+use Rattle.std.proofs.Common.{◌≡◌, ◌≢◌, ◌⊎◌, inl, inr, ℕ, ◌<◌, ◌==◌, Bool, true, false, cond, List, [], ◌∷◌, Option, refl, sym, ap, ◌∙◌, subst, arith}
 use Rattle.std.proofs.lemmas.Bool.Decides.{eqb_tells}
 use Rattle.x86_values.specs.declared.word.Word.{Word}
 use Rattle.x86_values.specs.Words.{padded, word_list}
-use Rattle.memory.specs.Memory.{Memory, Store, Load, AreApart, allows_all, bytes_at, put_all}
+use Rattle.memory.specs.Memory.{Memory, Store, AreApart, bytes_at, put_all}
 use Rattle.memory.specs.MemoryLaws.{MemoryLaws}
 use Rattle.x86_types.specs.Numbers.{number_of_reg}
 use Rattle.x86_meaning.specs.Registers.{Registers, with_register}
@@ -12,10 +12,9 @@ use Rattle.private_memory.specs.PrivateAreaLaws.{PrivateAccessLaws}
 use Rattle.named_code.specs.declared.slot.Slot.{Slot}
 use Rattle.named_code.specs.declared.slot.Slot.TheVariants.{Fixed, Name}
 use Rattle.named_code.specs.declared.named.VInstr.{VInstr}
-use Rattle.named_code.specs.Items.{name_place}
 use Rattle.named_code.specs.Running.{CodeState}
 use Rattle.name_cells.specs.Cells.{cell_at}
-use Rattle.name_cells.specs.Holders.{has_byte_field, last_name, holder, borrows_ebx}
+use Rattle.name_cells.specs.Holders.{has_byte_field, last_name, holder}
 use Rattle.name_cells.specs.CanBePlaced.{HasName, IsInstrPlaceable}
 use Rattle.name_cells.specs.Pairs.{HoldAlike}
 use Rattle.name_cells.specs.MovedNames.{StandsIn, fetched, kept, with_fetched, with_kept, HaveCells, StandsBefore}
@@ -93,6 +92,7 @@ module _ (memories : MemoryLaws) (areas : PrivateAccessLaws) where
     where
       order : (n m : ℕ) → n ≢ m → (n < m) ⊎ (m < n)
       order n m e = grind (arith, e)
+
       by : (n < m) ⊎ (m < n) → AreApart (cell_at n) 4 (cell_at m) 4
       by (inl l) = memories.apart_in_order (cell_at n) 4 (cell_at m) 4 (omega (arith, l)) (omega (arith, low, below))
       by (inr l) = memories.apart_symmetric (cell_at m) 4 (cell_at n) 4 (memories.apart_in_order (cell_at m) 4 (cell_at n) 4 (omega (arith, l)) (omega (arith, low, below)))

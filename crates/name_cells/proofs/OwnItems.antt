@@ -1,14 +1,13 @@
 -- An instruction's own item uses pairs.
-use Rattle.std.proofs.Common.{◌≡◌, ◌≢◌, ◌⊎◌, inl, inr, ℕ, zero, suc, ◌+◌, ◌<◌, Bool, true, false, cond, List, [], ◌∷◌, ◌++◌, flat_map, slice_get, All, Option, Some, None, refl, sym, ap, ◌∙◌, subst, arith}
+use Rattle.std.proofs.Common.{◌≡◌, ◌≢◌, ◌⊎◌, inl, inr, ℕ, zero, suc, ◌<◌, Bool, true, false, cond, List, [], ◌∷◌, ◌++◌, flat_map, slice_get, All, Option, Some, None, refl, sym, ap, ◌∙◌, subst, arith}
 use Rattle.std.proofs.lemmas.List.Elements.{All-head, All-tail}
 use Rattle.x86_values.specs.declared.word.Flags.{Flags}
 use Rattle.memory.specs.Memory.{Memory}
 use Rattle.x86_types.specs.declared.operand.Reg.{Reg}
 use Rattle.x86_types.specs.declared.operand.Reg.TheVariants.{Eax, Ecx, Edx, Ebx, Esp, Ebp, Esi, Edi}
-use Rattle.x86_types.specs.declared.instr.Instr.{Instr}
 use Rattle.x86_types.specs.Numbers.{number_of_reg}
 use Rattle.x86_types.specs.Registers.{RegisterField, Index, Whole, Byte, renamed}
-use Rattle.x86_meaning.specs.Registers.{Registers, Naming, byte_place, machine_naming}
+use Rattle.x86_meaning.specs.Registers.{Registers, byte_place, machine_naming}
 use Rattle.x86_meaning.specs.Effect.{accesses, effect}
 use Rattle.field_places.specs.Fields.{Field, fields, implicit_registers}
 use Rattle.field_places.specs.Pairs.{Pairs, ArePaired, HoldTheSame, KindIsPaired, FieldsArePaired, PairedWithThemselves, UsesPairs, ResultsAlike}
@@ -18,7 +17,7 @@ use Rattle.named_code.specs.declared.slot.Slot.TheVariants.{Fixed, Name}
 use Rattle.named_code.specs.declared.named.VInstr.{VInstr}
 use Rattle.named_code.specs.Items.{name_place, place_of, byte_of, slot_or, slot_at, naming_of}
 use Rattle.name_cells.specs.Renaming.{register_of}
-use Rattle.name_cells.specs.Holders.{has_byte_field, last_name, is_last, holder, slot_register, field_registers, borrows_ebx}
+use Rattle.name_cells.specs.Holders.{has_byte_field, last_name, holder, slot_register, field_registers, borrows_ebx}
 use Rattle.name_cells.specs.CanBePlaced.{IsPlaceable, HasName, FitsField, IsFieldPlaceable, IsInstrPlaceable}
 use Rattle.name_cells.specs.Pairs.{slot_pair, pairs_of, own_renaming, own_naming, HoldAlike}
 use Rattle.name_cells.proofs.PairedPlaces.{IsItself, IsNamePair, which, one_to_one}
@@ -32,6 +31,7 @@ name_pair byte last (Fixed r ∷ slots) n (inl e) = absurd (not_name e)
     is_fixed : Slot → Bool
     is_fixed (Fixed r) = true
     is_fixed (Name n) = false
+
     not_name : Fixed r ≡ Name n → ⊥
     not_name e = absurd (let f : is_fixed (Fixed r) ≡ is_fixed (Name n) = ap is_fixed e in cc)
 name_pair byte last (Fixed r ∷ slots) n (inr h) = name_pair byte last slots n h
@@ -40,6 +40,7 @@ name_pair byte last (Name m ∷ slots) n (inl e) = let f : m ≡ n = number_is m
     number_of : Slot → ℕ
     number_of (Fixed r) = 0
     number_of (Name k) = k
+
     number_is : (m n : ℕ) → Name m ≡ Name n → m ≡ n
     number_is m n e = ap number_of e
 name_pair byte last (Name m ∷ slots) n (inr h) = inr (name_pair byte last slots n h)

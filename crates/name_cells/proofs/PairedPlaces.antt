@@ -1,9 +1,9 @@
 -- The pairs of an instruction: which they are, and that no place is in two.
-use Rattle.std.proofs.Common.{◌≡◌, ◌≢◌, ◌⊎◌, inl, inr, ℕ, ◌+◌, ◌<◌, ◌==◌, ◌&&◌, Bool, true, false, cond, is_some, List, [], ◌∷◌, ◌++◌, flat_map, Option, Some, None, refl, sym, ap, ◌∙◌, subst, arith}
+use Rattle.std.proofs.Common.{◌≡◌, ◌⊎◌, inl, inr, ℕ, ◌+◌, ◌<◌, Bool, true, false, cond, is_some, List, [], ◌∷◌, ◌++◌, flat_map, Option, Some, None, refl, sym, ap, ◌∙◌, subst, arith}
 use Rattle.std.proofs.lemmas.Bool.{eqb-true}
 use Rattle.x86_types.specs.declared.operand.Reg.TheVariants.{Ebx, Ebp, Esi}
 use Rattle.x86_types.specs.Numbers.{number_of_reg}
-use Rattle.field_places.specs.Pairs.{Pairs, ArePaired, IsOneToOne}
+use Rattle.field_places.specs.Pairs.{ArePaired, IsOneToOne}
 use Rattle.named_code.specs.declared.slot.Slot.{Slot}
 use Rattle.named_code.specs.declared.slot.Slot.TheVariants.{Fixed, Name}
 use Rattle.named_code.specs.declared.named.VInstr.{VInstr}

@@ -1,5 +1,5 @@
 -- A small code can be placed.
-use Rattle.std.proofs.Common.{◌≡◌, ◌≢◌, ℕ, ◌<◌, ◌≤◌, Bool, true, false, List, [], ◌∷◌, All, inl, inr, refl, sym, ap, ◌∙◌, subst, arith}
+use Rattle.std.proofs.Common.{◌≡◌, ◌≢◌, ℕ, ◌<◌, Bool, true, false, List, [], ◌∷◌, All, inl, inr, refl, sym, ap, ◌∙◌, subst, arith}
 use Rattle.std.proofs.lemmas.List.Elements.{All-nil, All-cons}
 use Rattle.x86_types.specs.declared.operand.Reg.TheVariants.{Ebx}
 use Rattle.field_places.specs.Fields.{fields, implicit_registers}
@@ -7,7 +7,7 @@ use Rattle.named_code.specs.declared.slot.Slot.{Slot}
 use Rattle.named_code.specs.declared.slot.Slot.TheVariants.{Fixed, Name}
 use Rattle.named_code.specs.declared.named.VBlock.{VBlock}
 use Rattle.name_cells.specs.SmallCode.{small_instr, small_code}
-use Rattle.name_cells.specs.CanBePlaced.{IsPlaceable, HasName, IsFieldPlaceable, IsInstrPlaceable, IsBlockPlaceable, LeavesEbx, CanBePlaced}
+use Rattle.name_cells.specs.CanBePlaced.{IsPlaceable, HasName, IsFieldPlaceable, IsInstrPlaceable, IsBlockPlaceable, CanBePlaced}
 
 single : {X : Type 0} (P : X → Type 0) (x : X) → P x → All P (x ∷ [])
 single P x h = All-cons P x [] h (All-nil P)

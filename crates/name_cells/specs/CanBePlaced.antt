@@ -1,6 +1,5 @@
 -- Which code can be placed with its names in cells: what `choose` gives. All of this is own.
-use Rattle.std.specs.Prelude.{◌≡◌, ◌≢◌, ℕ, ◌<◌, ◌≤◌, Bool, true, false, is_some, List, [], ◌∷◌, length, All, ◌⊎◌}
-use Rattle.x86_types.specs.declared.operand.Reg.{Reg}
+use Rattle.std.specs.Prelude.{◌≡◌, ◌≢◌, ℕ, ◌<◌, ◌≤◌, true, false, is_some, List, [], ◌∷◌, length, All, ◌⊎◌}
 use Rattle.x86_types.specs.declared.operand.Reg.TheVariants.{Ebx}
 use Rattle.x86_types.specs.declared.instr.Instr.{Instr}
 use Rattle.x86_types.specs.declared.instr.Instr.TheVariants as instr

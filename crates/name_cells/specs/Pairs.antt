@@ -1,5 +1,5 @@
 -- The places that an instruction and its own item use, in pairs. All of this is own.
-use Rattle.std.specs.Prelude.{◌≡◌, ℕ, ◌<◌, Bool, true, cond, List, [], ◌∷◌, ◌++◌, flat_map, Option}
+use Rattle.std.specs.Prelude.{◌≡◌, ℕ, ◌<◌, Bool, true, cond, [], ◌∷◌, ◌++◌, flat_map, Option}
 use Rattle.x86_types.specs.Numbers.{number_of_reg}
 use Rattle.x86_types.specs.Registers.{Renaming}
 use Rattle.x86_meaning.specs.Registers.{Registers, Naming, machine_naming}
