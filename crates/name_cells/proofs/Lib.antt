@@ -6,3 +6,4 @@ pub mod ByteFields
 pub mod OwnItems
 pub mod CellMoves
 pub mod MovedNames
+pub mod OwnSteps

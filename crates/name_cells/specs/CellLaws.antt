@@ -20,6 +20,7 @@ use Rattle.name_cells.specs.Holders.{has_byte_field, last_name, holder}
 use Rattle.name_cells.specs.CanBePlaced.{HasName, IsInstrPlaceable}
 use Rattle.name_cells.specs.Pairs.{pairs_of, own_renaming, HoldAlike}
 use Rattle.name_cells.specs.Placing.{fetches, keeps, place_instr}
+use Rattle.name_cells.specs.OwnSteps.{MissCells, StandsBeside, RunAlike}
 use Rattle.name_cells.specs.MovedNames.{StandsIn, with_fetched, with_kept, HaveCells, StandsBefore}
 
 -- before these items, in a state
@@ -33,6 +34,8 @@ pub record CellLaws : Type 0 where
   pub own_accesses : (x : VInstr) (r q : Registers) → IsInstrPlaceable x → HoldAlike x r q → accesses (naming_of x.slots) x.instr r ≡ accesses machine_naming (renamed (own_renaming x) x.instr) q
   pub own_effect : (x : VInstr) (next : ℕ) (flags : Flags) (r q : Registers) (m : Memory) → IsInstrPlaceable x → HoldAlike x r q
       → ResultsAlike (pairs_of x) r q (effect (naming_of x.slots) x.instr next (processor r flags) m) (effect machine_naming (renamed (own_renaming x) x.instr) next (processor q flags) m)
+  -- over a memory in which the cells lie it runs as the instruction does, where that misses the cells
+  pub own_step : (x : VInstr) (rest rest' : List Item) (s t : CodeState) → IsInstrPlaceable x → StandsBeside x s t → MissCells (accesses (naming_of x.slots) x.instr s.cpu.regs) s.memory → RunAlike x rest rest' s t
   -- the MOVs before it run to the state in which its names stand in their registers, and those behind it to that in which they stand in
   -- their cells
   pub fetches_run : (marks : Marks) (code : List CodeBlock) (count : ℕ) (byte : Bool) (last : Option ℕ) (slots : List Slot) (rest : List Item) (t : CodeState) → count ≤ 1540096 → HaveCells count slots → HasPrivateArea t.memory

@@ -5,5 +5,6 @@ pub mod Placing
 pub mod CanBePlaced
 pub mod Pairs
 pub mod MovedNames
+pub mod OwnSteps
 pub mod CellLaws
 pub mod SmallCode

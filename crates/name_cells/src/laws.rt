@@ -4,6 +4,7 @@ ghost use Rattle.name_cells.specs.CellLaws.{CellLaws};
 use field_places::field_place_laws;
 use memory::memory_laws;
 use private_memory::private_access_laws;
+use x86_meaning::{access_laws, step_laws};
 
 /// Its clause is the laws of code whose names live in cells: an instruction has at most eight MOVs beside it; those before it bring
 /// its names to registers, its own item does over these what the instruction does over the names, and those behind it bring them back.
@@ -13,4 +14,6 @@ pub fn cell_laws()
     field_place_laws();
     memory_laws();
     private_access_laws();
+    access_laws();
+    step_laws();
 }
