@@ -28,7 +28,7 @@ use Rattle.name_cells.specs.Cells.{cell_at, home_at, homes_of}
 use Rattle.name_cells.specs.Holders.{holder}
 use Rattle.name_cells.specs.Placing.{fetches, keeps}
 use Rattle.name_cells.specs.MovedNames.{fetched, kept, with_fetched, with_kept, HaveCells}
-use Rattle.name_cells.specs.CellLaws.{before_items}
+use Rattle.name_cells.specs.Living.{before_items}
 
 -- ---- the cell of a name
 home_in : (a n k : ℕ) → k < n → slice_get (map home_at (range_with_len a n)) k ≡ Some (home_at (a + k))
@@ -86,12 +86,12 @@ module _ (memories : MemoryLaws) (areas : PrivateAccessLaws) where
   }
 
   module _ (marks : Marks) (code : List CodeBlock) (count : ℕ) (small : count ≤ 1540096) where
-    fetch_step : (n : ℕ) (r : Reg) (rest : List Item) (t : CodeState) → n < count → HasPrivateArea t.memory → code_next marks code (before_items (fetch_from (cell_of (homes_of count) n) r ∷ rest) t) ≡ Go [] (before_items rest (fetched n r t))
+    pub fetch_step : (n : ℕ) (r : Reg) (rest : List Item) (t : CodeState) → n < count → HasPrivateArea t.memory → code_next marks code (before_items (fetch_from (cell_of (homes_of count) n) r ∷ rest) t) ≡ Go [] (before_items rest (fetched n r t))
     unfolding code_next
     fetch_step n r rest t low h =
         ap (λ (a : ℕ). act (fetch_from a r) rest t) (cell_is count n low) ∙ fetch_is (cell_at n) r rest t (omega (arith, low, small)) (areas.allows_area Load t.memory (cell_at n) 4 h (omega arith) (omega (arith, low, small)))
 
-    keep_step : (n : ℕ) (r : Reg) (rest : List Item) (t : CodeState) → n < count → HasPrivateArea t.memory → code_next marks code (before_items (keep_to (cell_of (homes_of count) n) r ∷ rest) t) ≡ Go [] (before_items rest (kept n r t))
+    pub keep_step : (n : ℕ) (r : Reg) (rest : List Item) (t : CodeState) → n < count → HasPrivateArea t.memory → code_next marks code (before_items (keep_to (cell_of (homes_of count) n) r ∷ rest) t) ≡ Go [] (before_items rest (kept n r t))
     unfolding code_next
     keep_step n r rest t low h =
         ap (λ (a : ℕ). act (keep_to a r) rest t) (cell_is count n low) ∙ keep_is (cell_at n) r rest t (omega (arith, low, small)) (areas.allows_area Store t.memory (cell_at n) 4 h (omega arith) (omega (arith, low, small)))

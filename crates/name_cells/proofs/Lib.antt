@@ -7,3 +7,6 @@ pub mod OwnItems
 pub mod CellMoves
 pub mod MovedNames
 pub mod OwnSteps
+pub mod Falling
+pub mod ItemsRun
+pub mod WholeInstrs

@@ -22,7 +22,7 @@ use Rattle.name_cells.proofs.PairedPlaces.{clash, same_name}
 use Rattle.name_cells.proofs.CellMoves.{area_after}
 
 -- ---- registers
-set_there : (n : ℕ) (w : Word) (r : Registers) (k : ℕ) → k ≡ n → with_register n w r k ≡ w
+pub set_there : (n : ℕ) (w : Word) (r : Registers) (k : ℕ) → k ≡ n → with_register n w r k ≡ w
 unfolding with_register
 set_there n w r k e = by (eqb_tells k n)
   where
@@ -30,7 +30,7 @@ set_there n w r k e = by (eqb_tells k n)
     by (inl h) = ap (λ (b : Bool). cond b w (r k)) h.0
     by (inr h) = absurd (h.1 e)
 
-set_elsewhere : (n : ℕ) (w : Word) (r : Registers) (k : ℕ) → k ≢ n → with_register n w r k ≡ r k
+pub set_elsewhere : (n : ℕ) (w : Word) (r : Registers) (k : ℕ) → k ≢ n → with_register n w r k ≡ r k
 unfolding with_register
 set_elsewhere n w r k e = by (eqb_tells k n)
   where
@@ -43,7 +43,7 @@ module _ (byte : Bool) (last : Option ℕ) where
   held n = number_of_reg (holder byte last n)
 
   -- a register that holds no name stays
-  others : (slots : List Slot) (t : CodeState) (k : ℕ) → ((n : ℕ) → HasName n slots → k ≢ held n) → (with_fetched byte last slots t).cpu.regs k ≡ t.cpu.regs k
+  pub others : (slots : List Slot) (t : CodeState) (k : ℕ) → ((n : ℕ) → HasName n slots → k ≢ held n) → (with_fetched byte last slots t).cpu.regs k ≡ t.cpu.regs k
   others [] t k h = refl
   others (Fixed r ∷ slots) t k h = others slots t k (λ n g. h n (inr g))
   others (Name m ∷ slots) t k h = others slots (fetched m (holder byte last m) t) k (λ n g. h n (inr g)) ∙ set_elsewhere (held m) _ t.cpu.regs k (h m (inl refl))
@@ -97,10 +97,10 @@ module _ (memories : MemoryLaws) (areas : PrivateAccessLaws) where
       by (inl l) = memories.apart_in_order (cell_at n) 4 (cell_at m) 4 (omega (arith, l)) (omega (arith, low, below))
       by (inr l) = memories.apart_symmetric (cell_at m) 4 (cell_at n) 4 (memories.apart_in_order (cell_at m) 4 (cell_at n) 4 (omega (arith, l)) (omega (arith, low, below)))
 
-  put_there : (n : ℕ) (w : Word) (m : Memory) → n < 1540096 → HasPrivateArea m → StandsIn (put_all (cell_at n) (word_list w) m) n w
+  pub put_there : (n : ℕ) (w : Word) (m : Memory) → n < 1540096 → HasPrivateArea m → StandsIn (put_all (cell_at n) (word_list w) m) n w
   put_there n w m low h = memories.stored_is_loaded Store (cell_at n) (word_list w) m (omega arith) (areas.allows_area Store m (cell_at n) 4 h (omega arith) (omega (arith, low)))
 
-  put_elsewhere : (n k : ℕ) (w v : Word) (m : Memory) → n < 1540096 → k < 1540096 → n ≢ k → StandsIn m n v → StandsIn (put_all (cell_at k) (word_list w) m) n v
+  pub put_elsewhere : (n k : ℕ) (w v : Word) (m : Memory) → n < 1540096 → k < 1540096 → n ≢ k → StandsIn m n v → StandsIn (put_all (cell_at k) (word_list w) m) n v
   put_elsewhere n k w v m low below other h = memories.bytes_elsewhere (cell_at k) (word_list w) m (cell_at n) 4 (cells_apart n k low below other) ∙ h
 
   module _ (byte : Bool) (last : Option ℕ) where

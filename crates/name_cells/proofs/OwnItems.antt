@@ -59,7 +59,7 @@ module _ (x : VInstr) where
   abbrev pairs : Pairs
   pairs = pairs_of x
 
-  name_paired : (n : ℕ) → HasName n x.slots → ArePaired pairs (name_place n) (number_of_reg (holder byte last n))
+  pub name_paired : (n : ℕ) → HasName n x.slots → ArePaired pairs (name_place n) (number_of_reg (holder byte last n))
   name_paired n h = inr (inr (inr (past (borrows_ebx x) _ _ _ (name_pair byte last x.slots n h))))
 
   ebx_paired : (borrows_ebx x ≡ true → ⊥) → ArePaired pairs 3 3
@@ -69,7 +69,7 @@ module _ (x : VInstr) where
       by true k = absurd (k refl)
       by false k = inl (refl, refl)
 
-  low_paired : (n : ℕ) → n < 4 → (borrows_ebx x ≡ true → n < 3) → ArePaired pairs n n
+  pub low_paired : (n : ℕ) → n < 4 → (borrows_ebx x ≡ true → n < 3) → ArePaired pairs n n
   low_paired zero low below = inl (refl, refl)
   low_paired (suc zero) low below = inr (inl (refl, refl))
   low_paired (suc (suc zero)) low below = inr (inr (inl (refl, refl)))

@@ -143,6 +143,7 @@ module _ (memories : MemoryLaws) where
             inr (record {
               left = c;
               right = d;
+              is_left = e;
               named = named_is true true (Ok c) h k e;
               placed = placed_is true true (Ok d) h k f;
               effects = alike;

@@ -20,12 +20,9 @@ use Rattle.name_cells.specs.Holders.{has_byte_field, last_name, holder}
 use Rattle.name_cells.specs.CanBePlaced.{HasName, IsInstrPlaceable}
 use Rattle.name_cells.specs.Pairs.{pairs_of, own_renaming, HoldAlike}
 use Rattle.name_cells.specs.Placing.{fetches, keeps, place_instr}
+use Rattle.name_cells.specs.Living.{before_items, LiveInCells, ItemsRun}
 use Rattle.name_cells.specs.OwnSteps.{MissCells, StandsBeside, RunAlike}
 use Rattle.name_cells.specs.MovedNames.{StandsIn, with_fetched, with_kept, HaveCells, StandsBefore}
-
--- before these items, in a state
-abbrev pub before_items : List Item → CodeState → CodePosition
-before_items items t = standing_at (Inside items) t
 
 pub record CellLaws : Type 0 where
   -- an instruction is placed as itself and at most eight MOVs
@@ -49,3 +46,7 @@ pub record CellLaws : Type 0 where
       → StandsIn (with_kept (has_byte_field x.instr) (last_name x.slots) x.slots t).memory n (t.cpu.regs (number_of_reg (holder (has_byte_field x.instr) (last_name x.slots) n)))
   pub kept_elsewhere : (x : VInstr) (t : CodeState) (n : ℕ) (w : Word) → HaveCells 1540096 x.slots → n < 1540096 → ((m : ℕ) → HasName m x.slots → m ≢ n) → StandsIn t.memory n w
       → StandsIn (with_kept (has_byte_field x.instr) (last_name x.slots) x.slots t).memory n w
+  -- So an instruction's items run as the instruction does: where it misses the cells, the run ends so, or both go on to states beside each
+  -- other again
+  pub items_run : (marks : Marks) (code : List CodeBlock) (count : ℕ) (x : VInstr) (rest rest' : List Item) (s t : CodeState) → IsInstrPlaceable x → count ≤ 1540095 → HaveCells count x.slots → LiveInCells count s t
+      → MissCells (accesses (naming_of x.slots) x.instr s.cpu.regs) s.memory → ItemsRun marks code count x rest rest' s t

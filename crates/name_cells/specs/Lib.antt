@@ -6,5 +6,6 @@ pub mod CanBePlaced
 pub mod Pairs
 pub mod MovedNames
 pub mod OwnSteps
+pub mod Living
 pub mod CellLaws
 pub mod SmallCode

@@ -1,15 +1,15 @@
 -- How an own item runs beside its instruction, over a memory in which the cells lie. All of this is own.
-use Rattle.std.specs.Prelude.{◌≡◌, ◌⊎◌, ℕ, ◌<◌, true, List, [], ◌∷◌}
+use Rattle.std.specs.Prelude.{◌≡◌, ◌⊎◌, ℕ, ◌<◌, true, List, [], ◌∷◌, Ok}
 use Rattle.traces.specs.Trace.{End, Halt}
 use Rattle.x86_values.specs.declared.word.Word.{Word}
 use Rattle.memory.specs.Memory.{Memory, allows_all, kind_of, SameOutside, AreApart}
 use Rattle.x86_types.specs.Registers.{renamed}
 use Rattle.x86_meaning.specs.Operands.{Access}
-use Rattle.x86_meaning.specs.Effect.{Effect}
+use Rattle.x86_meaning.specs.Effect.{Effect, effect}
 use Rattle.private_memory.specs.PrivateArea.{HasPrivateArea}
 use Rattle.field_places.specs.Pairs.{EffectsAlike}
 use Rattle.named_code.specs.declared.named.VInstr.{VInstr}
-use Rattle.named_code.specs.Items.{Item, named_item, own_item}
+use Rattle.named_code.specs.Items.{Item, named_item, own_item, naming_of}
 use Rattle.named_code.specs.Running.{CodeState, act, onward, performed}
 use Rattle.name_cells.specs.Pairs.{pairs_of, own_renaming, HoldAlike}
 use Rattle.name_cells.specs.MovedNames.{StandsIn}
@@ -44,6 +44,7 @@ pub record EndAlike (x : VInstr) (rest rest' : List Item) (s t : CodeState) : Ty
 pub record GoAlike (x : VInstr) (rest rest' : List Item) (s t : CodeState) : Type 0 where
   pub left : Effect
   pub right : Effect
+  pub is_left : effect (naming_of x.slots) x.instr 0 s.cpu s.memory ≡ Ok left
   pub named : act (named_item x) rest s ≡ onward left.way (named_item x) rest (performed left s)
   pub placed : act (placed_own x) rest' t ≡ onward right.way (placed_own x) rest' (performed right t)
   pub effects : EffectsAlike (pairs_of x) s.cpu.regs t.cpu.regs left right

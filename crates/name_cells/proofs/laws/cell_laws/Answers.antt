@@ -3,6 +3,7 @@ use Rattle.name_cells.proofs.OwnItems.{own_accesses, own_effect}
 use Rattle.name_cells.proofs.CellMoves.{fetches_run, keeps_run}
 use Rattle.name_cells.proofs.MovedNames.{fetched_alike, kept_there, kept_elsewhere}
 use Rattle.name_cells.proofs.OwnSteps.{own_step}
+use Rattle.name_cells.proofs.WholeInstrs.{items_run}
 use Rattle.name_cells.proofs.laws.cell_laws.Goals as goal
 
 pub returns : goal.returns
@@ -19,4 +20,6 @@ returns c =
       fetched_alike = fetched_alike;
       kept_there = kept_there memories areas;
       kept_elsewhere = kept_elsewhere memories areas;
+      items_run = λ marks code count x rest rest' s t h small have l m.
+          items_run c.run_laws.ensures memories areas c.field_place_laws.ensures c.access_laws.ensures c.step_laws.ensures marks code count small x h have rest rest' s t l m;
     }
