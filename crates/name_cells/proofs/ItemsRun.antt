@@ -1,44 +1,31 @@
 -- The items of an instruction run as the instruction does.
-use Rattle.std.proofs.Common.{◌≡◌, ◌≢◌, ◌⊎◌, inl, inr, ℕ, zero, suc, ◌+◌, ◌*◌, ◌<◌, ◌≤◌, ◌==◌, ◌&&◌, Bool, true, false, cond, is_some, List, [], ◌∷◌, ◌++◌, map, flat_map, fold, length, Option, Some, None, Ok, refl, sym, ap, ◌∙◌, subst, arith}
+use Rattle.std.proofs.Common.{◌≡◌, ◌≢◌, ◌⊎◌, inl, inr, ℕ, ◌+◌, ◌<◌, ◌==◌, Bool, true, false, cond, List, [], ◌∷◌, ◌++◌, map, Option, refl, sym, ap, ◌∙◌, arith}
 use Rattle.std.proofs.lemmas.Bool.Decides.{eqb_tells}
-use Rattle.traces.specs.Trace.{Move, Go, Halt}
-use Rattle.traces.specs.Steps.{Reaches, rests, goes}
-use Rattle.traces.specs.RunLaws.{RunLaws}
 use Rattle.x86_values.specs.declared.word.Word.{Word}
-use Rattle.x86_values.specs.Words.{padded, word_list}
-use Rattle.memory.specs.Memory.{Memory, bytes_at, put_all, IsWithin}
+use Rattle.x86_values.specs.Words.{word_list}
+use Rattle.memory.specs.Memory.{Memory, put_all, IsWithin}
 use Rattle.memory.specs.MemoryLaws.{MemoryLaws}
 use Rattle.x86_types.specs.declared.operand.Reg.TheVariants.{Ebx, Ebp, Esi}
 use Rattle.x86_types.specs.Numbers.{number_of_reg}
-use Rattle.x86_meaning.specs.Registers.{Registers, Processor, with_register}
-use Rattle.x86_meaning.specs.Outcomes.{Way, Falls}
-use Rattle.x86_meaning.specs.Effect.{Effect, accesses}
-use Rattle.x86_meaning.specs.StepLaws.{StepLaws}
-use Rattle.x86_meaning.specs.AccessLaws.{AccessLaws}
+use Rattle.x86_meaning.specs.Registers.{Registers}
+use Rattle.x86_meaning.specs.Effect.{Effect}
 use Rattle.private_memory.specs.PrivateArea.{HasPrivateArea}
 use Rattle.private_memory.specs.PrivateAreaLaws.{PrivateAccessLaws}
 use Rattle.field_places.specs.Pairs.{ArePaired, EffectsAlike}
-use Rattle.field_places.specs.FieldPlaceLaws.{FieldPlaceLaws}
 use Rattle.named_code.specs.declared.slot.Slot.{Slot}
 use Rattle.named_code.specs.declared.slot.Slot.TheVariants.{Fixed, Name}
 use Rattle.named_code.specs.declared.named.VInstr.{VInstr}
-use Rattle.named_code.specs.declared.placed.PInstr.{PInstr}
-use Rattle.named_code.specs.Items.{Item, CodeBlock, name_place, named_item, placed_item, naming_of}
-use Rattle.named_code.specs.Running.{CodeState, CodePosition, Inside, Marks, standing_at, act, onward, performed, code_next}
-use Rattle.name_cells.specs.Cells.{cell_at, homes_of}
-use Rattle.name_cells.specs.Holders.{has_byte_field, name_or, last_name, is_last, holder, borrows_ebx}
-use Rattle.name_cells.specs.Placing.{fetch_slot, keep_slot, fetches, keeps, own, lend, give_back, place_instr}
-use Rattle.name_cells.specs.CanBePlaced.{HasName, IsInstrPlaceable}
-use Rattle.name_cells.specs.Pairs.{pairs_of, HoldAlike}
-use Rattle.name_cells.specs.MovedNames.{StandsIn, fetched, kept, with_fetched, with_kept, HaveCells, StandsBefore}
-use Rattle.name_cells.specs.OwnSteps.{MissCells, SameButCells, StandsBeside, placed_own, EndAlike, GoAlike, RunAlike}
-use Rattle.name_cells.specs.Living.{before_items, LiveInCells, placed_start, ItemsEnd, ItemsFall, ItemGoes, ItemsRun}
-use Rattle.name_cells.proofs.PairedPlaces.{IsItself, IsNamePair, IsPair, which}
-use Rattle.name_cells.proofs.OwnItems.{low_paired, name_paired}
-use Rattle.name_cells.proofs.CellMoves.{area_after, fetch_step, keep_step, fetches_run, keeps_run}
-use Rattle.name_cells.proofs.MovedNames.{set_there, set_elsewhere, others, put_there, put_elsewhere, fetched_alike, kept_there, kept_elsewhere}
-use Rattle.name_cells.proofs.OwnSteps.{own_step}
-use Rattle.name_cells.proofs.Falling.{effect_falls}
+use Rattle.named_code.specs.Items.{name_place}
+use Rattle.named_code.specs.Running.{CodeState}
+use Rattle.name_cells.specs.Cells.{cell_at}
+use Rattle.name_cells.specs.Holders.{has_byte_field, last_name, is_last, holder, borrows_ebx}
+use Rattle.name_cells.specs.CanBePlaced.{HasName}
+use Rattle.name_cells.specs.Pairs.{pairs_of}
+use Rattle.name_cells.specs.MovedNames.{fetched, kept, with_fetched, with_kept, HaveCells}
+use Rattle.name_cells.specs.OwnSteps.{SameButCells}
+use Rattle.name_cells.proofs.PairedPlaces.{IsPair, which}
+use Rattle.name_cells.proofs.OwnItems.{low_paired}
+use Rattle.name_cells.proofs.CellMoves.{area_after}
 
 -- ---- lists
 split : {A B : Type 0} (f : A → B) (xs ys : List A) (zs : List B) → map f (xs ++ ys) ++ zs ≡ map f xs ++ (map f ys ++ zs)
@@ -107,11 +94,14 @@ named_or_not n (Fixed r ∷ slots) = more (named_or_not n slots)
     is_name : Slot → Bool
     is_name (Fixed r) = false
     is_name (Name n) = true
+
     not_fixed : (m : ℕ) → Fixed r ≡ Name m → ⊥
     not_fixed m e = absurd (let f : is_name (Fixed r) ≡ is_name (Name m) = ap is_name e in cc)
+
     first : ((m : ℕ) → HasName m slots → m ≢ n) → (m : ℕ) → (Fixed r ≡ Name m) ⊎ HasName m slots → m ≢ n
     first h m (inl e) = absurd (not_fixed m e)
     first h m (inr g) = h m g
+
     more : HasName n slots ⊎ ((m : ℕ) → HasName m slots → m ≢ n) → HasName n (Fixed r ∷ slots) ⊎ ((m : ℕ) → HasName m (Fixed r ∷ slots) → m ≢ n)
     more (inl h) = inl (inr h)
     more (inr h) = inr (first h)
@@ -120,9 +110,11 @@ named_or_not n (Name k ∷ slots) = more (eqb_tells k n) (named_or_not n slots)
     number_of : Slot → ℕ
     number_of (Fixed r) = 0
     number_of (Name j) = j
+
     first : (k ≡ n → ⊥) → ((m : ℕ) → HasName m slots → m ≢ n) → (m : ℕ) → (Name k ≡ Name m) ⊎ HasName m slots → m ≢ n
     first o h m (inl e) f = o (ap number_of e ∙ f)
     first o h m (inr g) f = h m g f
+
     more : (((k == n) ≡ true) × (k ≡ n)) ⊎ (((k == n) ≡ false) × (k ≡ n → ⊥)) → HasName n slots ⊎ ((m : ℕ) → HasName m slots → m ≢ n) → HasName n (Name k ∷ slots) ⊎ ((m : ℕ) → HasName m (Name k ∷ slots) → m ≢ n)
     more (inl e) h = inl (inl (ap (λ (j : ℕ). Name j) e.1))
     more (inr e) (inl h) = inl (inr h)
@@ -176,6 +168,7 @@ module _ (x : VInstr) where
         where
           four : (k ≡ 4 → ⊥) → k < 5 → k < 4
           four g l = grind (arith, g, l)
+
           three : k ≢ 3 → k < 4 → k < 3
           three g l = grind (arith, g, l)
 

@@ -1,16 +1,15 @@
 -- An own item runs as its instruction does.
-use Rattle.std.proofs.Common.{◌≡◌, ◌≢◌, ◌⊎◌, inl, inr, ℕ, ◌+◌, ◌*◌, ◌<◌, ◌≤◌, ◌&&◌, Bool, true, false, List, [], ◌∷◌, length, map, Option, Some, None, Result, Ok, Err, refl, sym, ap, ◌∙◌, subst, arith}
+use Rattle.std.proofs.Common.{◌≡◌, inl, inr, ℕ, ◌+◌, ◌<◌, Bool, true, false, List, [], ◌∷◌, length, map, Option, Some, None, Result, Ok, Err, refl, sym, ap, ◌∙◌, subst, arith}
 use Rattle.std.proofs.lemmas.Bool.{and_parts}
-use Rattle.traces.specs.Trace.{Move, Halt}
-use Rattle.x86_values.specs.declared.byte.Byte.{Byte}
+use Rattle.traces.specs.Trace.{Halt}
 use Rattle.x86_values.specs.declared.word.Word.{Word}
-use Rattle.memory.specs.Memory.{Memory, Place, wrapped, Stored, AccessKind, Load, Store, allows_all, put_all, store_all, kind_of, SameIn, SameOutside, AreApart, IsWithin}
+use Rattle.memory.specs.Memory.{Memory, Place, wrapped, Stored, AccessKind, Load, Store, allows_all, put_all, store_all, kind_of, AreApart, IsWithin}
 use Rattle.memory.specs.MemoryLaws.{MemoryLaws}
 use Rattle.x86_types.specs.declared.instr.Instr.{Instr}
 use Rattle.x86_types.specs.Registers.{renamed}
 use Rattle.x86_meaning.specs.declared.stop.Stop.{Stop}
 use Rattle.x86_meaning.specs.declared.stop.Stop.TheVariants.{MemoryFault}
-use Rattle.x86_meaning.specs.Registers.{Registers, Processor, machine_naming}
+use Rattle.x86_meaning.specs.Registers.{machine_naming}
 use Rattle.x86_meaning.specs.Operands.{Access}
 use Rattle.x86_meaning.specs.Effect.{Effect, accesses, effect}
 use Rattle.x86_meaning.specs.Step.{access_allowed, all_allowed, end_of}
@@ -20,13 +19,13 @@ use Rattle.private_memory.specs.PrivateArea.{HasPrivateArea}
 use Rattle.field_places.specs.Pairs.{ResultsAlike}
 use Rattle.field_places.specs.FieldPlaceLaws.{FieldPlaceLaws, processor}
 use Rattle.named_code.specs.declared.named.VInstr.{VInstr}
-use Rattle.named_code.specs.Items.{Item, named_item, own_item, naming_of}
-use Rattle.named_code.specs.Running.{CodeState, CodePosition, by_loads, act, onward, performed}
+use Rattle.named_code.specs.Items.{Item, named_item, naming_of}
+use Rattle.named_code.specs.Running.{CodeState, by_loads, act}
 use Rattle.name_cells.specs.Cells.{cell_at}
 use Rattle.name_cells.specs.CanBePlaced.{IsInstrPlaceable}
 use Rattle.name_cells.specs.Pairs.{pairs_of, own_renaming}
 use Rattle.name_cells.specs.MovedNames.{StandsIn}
-use Rattle.name_cells.specs.OwnSteps.{MissCells, SameButCells, StandsBeside, placed_own, EndAlike, GoAlike, RunAlike}
+use Rattle.name_cells.specs.OwnSteps.{MissCells, SameButCells, StandsBeside, placed_own, RunAlike}
 use Rattle.name_cells.proofs.OwnItems.{own_accesses, own_effect}
 
 -- what is stored misses the cells

@@ -1,45 +1,43 @@
 -- An instruction's items run as the instruction does: with names, and without.
-use Rattle.std.proofs.Common.{◌≡◌, ◌≢◌, ◌⊎◌, inl, inr, ℕ, zero, suc, ◌+◌, ◌*◌, ◌<◌, ◌≤◌, ◌==◌, ◌&&◌, Bool, true, false, cond, is_some, List, [], ◌∷◌, ◌++◌, map, flat_map, fold, length, Option, Some, None, Ok, refl, sym, ap, ◌∙◌, subst, arith}
+use Rattle.std.proofs.Common.{◌≡◌, ◌≢◌, ◌⊎◌, inl, inr, ℕ, suc, ◌+◌, ◌<◌, ◌≤◌, ◌==◌, ◌&&◌, Bool, true, false, is_some, List, [], ◌∷◌, ◌++◌, map, flat_map, fold, length, Option, Some, None, refl, sym, ap, ◌∙◌, subst, arith}
 use Rattle.std.proofs.lemmas.Bool.Decides.{eqb_tells}
-use Rattle.traces.specs.Trace.{Move, Go, Halt}
+use Rattle.traces.specs.Trace.{Go}
 use Rattle.traces.specs.Steps.{Reaches, rests, goes}
 use Rattle.traces.specs.RunLaws.{RunLaws}
 use Rattle.x86_values.specs.declared.word.Word.{Word}
-use Rattle.x86_values.specs.Words.{padded, word_list}
-use Rattle.memory.specs.Memory.{Memory, bytes_at, put_all, IsWithin}
+use Rattle.x86_values.specs.Words.{padded}
+use Rattle.memory.specs.Memory.{Memory, bytes_at}
 use Rattle.memory.specs.MemoryLaws.{MemoryLaws}
-use Rattle.x86_types.specs.declared.operand.Reg.TheVariants.{Ebx, Ebp, Esi}
+use Rattle.x86_types.specs.declared.operand.Reg.TheVariants.{Ebx}
 use Rattle.x86_types.specs.Numbers.{number_of_reg}
-use Rattle.x86_meaning.specs.Registers.{Registers, Processor, with_register}
+use Rattle.x86_meaning.specs.Registers.{Processor, with_register}
 use Rattle.x86_meaning.specs.Outcomes.{Way, Falls}
 use Rattle.x86_meaning.specs.Effect.{Effect, accesses}
 use Rattle.x86_meaning.specs.StepLaws.{StepLaws}
 use Rattle.x86_meaning.specs.AccessLaws.{AccessLaws}
 use Rattle.private_memory.specs.PrivateArea.{HasPrivateArea}
 use Rattle.private_memory.specs.PrivateAreaLaws.{PrivateAccessLaws}
-use Rattle.field_places.specs.Pairs.{ArePaired, EffectsAlike}
+use Rattle.field_places.specs.Pairs.{EffectsAlike}
 use Rattle.field_places.specs.FieldPlaceLaws.{FieldPlaceLaws}
 use Rattle.named_code.specs.declared.slot.Slot.{Slot}
 use Rattle.named_code.specs.declared.slot.Slot.TheVariants.{Fixed, Name}
 use Rattle.named_code.specs.declared.named.VInstr.{VInstr}
 use Rattle.named_code.specs.declared.placed.PInstr.{PInstr}
 use Rattle.named_code.specs.Items.{Item, CodeBlock, name_place, named_item, placed_item, naming_of}
-use Rattle.named_code.specs.Running.{CodeState, CodePosition, Inside, Marks, standing_at, act, onward, performed, code_next}
+use Rattle.named_code.specs.Running.{CodeState, CodePosition, Marks, act, onward, performed, code_next}
 use Rattle.name_cells.specs.Cells.{cell_at, homes_of}
 use Rattle.name_cells.specs.Holders.{has_byte_field, name_or, last_name, is_last, holder, borrows_ebx}
 use Rattle.name_cells.specs.Placing.{fetch_slot, keep_slot, fetches, keeps, own, lend, give_back, place_instr}
 use Rattle.name_cells.specs.CanBePlaced.{HasName, IsInstrPlaceable}
-use Rattle.name_cells.specs.Pairs.{pairs_of, HoldAlike}
-use Rattle.name_cells.specs.MovedNames.{StandsIn, fetched, kept, with_fetched, with_kept, HaveCells, StandsBefore}
-use Rattle.name_cells.specs.OwnSteps.{MissCells, SameButCells, StandsBeside, placed_own, EndAlike, GoAlike, RunAlike}
-use Rattle.name_cells.specs.Living.{before_items, LiveInCells, placed_start, ItemsEnd, ItemsFall, ItemGoes, ItemsRun}
-use Rattle.name_cells.proofs.PairedPlaces.{IsItself, IsNamePair, IsPair, which}
-use Rattle.name_cells.proofs.OwnItems.{low_paired, name_paired}
+use Rattle.name_cells.specs.Pairs.{pairs_of}
+use Rattle.name_cells.specs.MovedNames.{StandsIn, with_fetched, with_kept, HaveCells}
+use Rattle.name_cells.specs.OwnSteps.{MissCells, SameButCells, StandsBeside, placed_own, GoAlike, RunAlike}
+use Rattle.name_cells.specs.Living.{before_items, LiveInCells, placed_start, ItemsFall, ItemsRun}
+use Rattle.name_cells.proofs.OwnItems.{name_paired}
 use Rattle.name_cells.proofs.CellMoves.{area_after, fetch_step, keep_step, fetches_run, keeps_run}
 use Rattle.name_cells.proofs.MovedNames.{set_there, set_elsewhere, others, put_there, put_elsewhere, fetched_alike, kept_there, kept_elsewhere}
 use Rattle.name_cells.proofs.OwnSteps.{own_step}
 use Rattle.name_cells.proofs.Falling.{effect_falls}
-
 use Rattle.name_cells.proofs.ItemsRun.{layout, fetched_memory, fetched_flags, fetched_left, kept_cpu, kept_left, lent, given, given_memory, given_flags, given_left, named_or_not, not_four, ebx_left, name_left, registers_after, cell_put, kept_memory, kept_area}
 
 -- ---- slots without names

@@ -14,7 +14,7 @@ use Rattle.private_memory.specs.PrivateArea.{HasPrivateArea}
 use Rattle.named_code.specs.declared.slot.Slot.{Slot}
 use Rattle.named_code.specs.declared.named.VInstr.{VInstr}
 use Rattle.named_code.specs.Items.{Item, CodeBlock, naming_of, placed_item}
-use Rattle.named_code.specs.Running.{CodeState, CodePosition, Inside, Marks, standing_at, code_next}
+use Rattle.named_code.specs.Running.{CodeState, Marks, code_next}
 use Rattle.name_cells.specs.Cells.{homes_of}
 use Rattle.name_cells.specs.Holders.{has_byte_field, last_name, holder}
 use Rattle.name_cells.specs.CanBePlaced.{HasName, IsInstrPlaceable}
