@@ -60,7 +60,10 @@ pub(crate) static ARITHMETIC: [Row; 148] = [
     Row("test cl, dl", b"\x84\xD1"),
     Row("test cx, ax", b"\x66\x85\xC1"),
     Row("test eax, ebx", b"\x85\xD8"),
-    Row("test dword ptr [esi], 0x40000000", b"\xF7\x06\x00\x00\x00\x40"),
+    Row(
+        "test dword ptr [esi], 0x40000000",
+        b"\xF7\x06\x00\x00\x00\x40",
+    ),
     Row("inc bh", b"\xFE\xC7"),
     Row("inc ax", b"\x66\x40"),
     Row("inc ebx", b"\x43"),

@@ -20,9 +20,7 @@ fn end_of(alloc: Global, unit: &Unit, pages: &mut Pages) -> Result<Option<UnitEn
         return Ok(None);
     }
     let mut host = MemoryHost::new(alloc);
-    Ok(Some(run_unit(
-        alloc, unit, pages, ENTRY, 0, &mut host, BUDGET,
-    )?))
+    Ok(Some(run_unit(alloc, unit, pages, ENTRY, 0, &mut host, BUDGET)?))
 }
 
 // What the end of the unit says of the step. A system call is one where it ends the run.

@@ -12,7 +12,10 @@ pub(crate) static MOVES: [Row; 74] = [
     Row("mov [esi], ecx", b"\x89\x0E"),
     Row("mov byte ptr [esi], 0x90", b"\xC6\x06\x90"),
     Row("mov word ptr [edi], 0x1234", b"\x66\xC7\x07\x34\x12"),
-    Row("mov dword ptr [edi+4], 0x89ABCDEF", b"\xC7\x47\x04\xEF\xCD\xAB\x89"),
+    Row(
+        "mov dword ptr [edi+4], 0x89ABCDEF",
+        b"\xC7\x47\x04\xEF\xCD\xAB\x89",
+    ),
     Row("mov ah, 0x55", b"\xB4\x55"),
     Row("mov dx, 0xFFFE", b"\x66\xBA\xFE\xFF"),
     Row("mov ecx, 0x7FFFFFFF", b"\xB9\xFF\xFF\xFF\x7F"),

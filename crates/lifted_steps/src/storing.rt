@@ -47,10 +47,7 @@ fn store_at(at: u32, from: Var) -> Op {
 /// Adds operations that store the registers and flags.
 pub fn store_all(ops: &mut Vec<Op>) -> Result<(), AllocError> {
     for place in 0..8u8 {
-        ops.push(store_at(
-            REGISTERS + 4 * u32::from(place),
-            Var::Reg(place),
-        ))?;
+        ops.push(store_at(REGISTERS + 4 * u32::from(place), Var::Reg(place)))?;
     }
     for place in 0..5u8 {
         ops.push(store_at(FLAGS + 4 * u32::from(place), Var::Flag(place)))?;

@@ -15,11 +15,7 @@ use x86_step::Stepped;
 pub(crate) struct Row(pub &'static str, pub &'static [u8]);
 
 /// An instruction: its name, its bytes, and what its step from each of the states comes to.
-pub(crate) struct Ending(
-    pub &'static str,
-    pub &'static [u8],
-    pub [Stepped; 4],
-);
+pub(crate) struct Ending(pub &'static str, pub &'static [u8], pub [Stepped; 4]);
 
 /// The registers, by number, and the flags of a state, as a record has them.
 struct Start([u32; 8], u8);

@@ -8,10 +8,10 @@ use code_discovery::discover;
 use counting::{print_unit, unit_of};
 use elf_image::{Room, read_image};
 use std::alloc::Global;
+use std::env;
 use std::fmt::Display;
 use std::io::{self, BufWriter, Read, Write};
 use std::process::ExitCode;
-use std::env;
 
 fn print_error<W: Write, E: Display>(out: &mut W, error: &E) -> io::Result<ExitCode> {
     writeln!(out, "{error}")?;

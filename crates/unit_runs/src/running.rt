@@ -22,12 +22,7 @@ fn wanted_of(program: &Program) -> Option<UnitEnd> {
     }
 }
 
-fn expect_writes(
-    rt: &impl Abort,
-    name: &str,
-    host: &MemoryHost,
-    written: &[&[u8]],
-) {
+fn expect_writes(rt: &impl Abort, name: &str, host: &MemoryHost, written: &[&[u8]]) {
     let moved = host.moved().as_slice();
     assert!(rt; written.len() <= moved.len(), "{name}");
     for (write, bytes) in moved.iter().zip(written) {
@@ -47,7 +42,11 @@ fn expect_unit(rt: &impl Abort, alloc: Global, program: &Program) -> Result<(), 
     expect_writes(rt, name, &host, program.written);
     if let Some(wanted) = wanted_of(program) {
         assert_eq!(rt; end, wanted, "{name}");
-        assert_eq!(rt; host.moved().as_slice().len(), program.written.len(), "{name}");
+        assert_eq!(rt;
+            host.moved().as_slice().len(),
+            program.written.len(),
+            "{name}"
+        );
     }
     Ok(())
 }

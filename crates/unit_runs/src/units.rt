@@ -40,14 +40,6 @@ pub fn end_of(
     assert!(rt; needs_no_frame(&unit));
     let stack = stack_of(name);
     let mut pages = first_pages(alloc, image, &stack, ESP0)?;
-    let end = run_unit(
-        alloc,
-        &unit,
-        &mut pages,
-        image.entry,
-        ESP0,
-        host,
-        BUDGET,
-    )?;
+    let end = run_unit(alloc, &unit, &mut pages, image.entry, ESP0, host, BUDGET)?;
     Ok(end)
 }
