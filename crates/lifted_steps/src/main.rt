@@ -3,15 +3,19 @@
 #![tactic(auto)]
 
 #[cfg(test)]
-mod arithmetic_rows;
-#[cfg(test)]
 mod ending_rows;
 #[cfg(test)]
 mod flow_rows;
 mod lifted;
 #[cfg(test)]
 mod move_rows;
+#[cfg(test)]
+mod product_rows;
+#[cfg(test)]
+mod shift_rows;
 mod storing;
+#[cfg(test)]
+mod sum_rows;
 #[cfg(test)]
 mod tests;
 mod unit;

@@ -1,10 +1,14 @@
 // The list of an instruction beside its step: from a few states, rows of instructions of every form and width, each with how its step goes on by
 // the manual. Wherever the step is specified the list has to come to the same.
-use crate::arithmetic_rows::ARITHMETIC;
+ghost use Rattle.std.specs.Prelude.{◌+◌, ◌≤◌};
+
 use crate::ending_rows::ENDINGS;
 use crate::flow_rows::FLOW;
 use crate::lifted::lifted_step;
 use crate::move_rows::MOVES;
+use crate::product_rows::PRODUCTS;
+use crate::shift_rows::SHIFTS;
+use crate::sum_rows::SUMS;
 use std::alloc::{AllocError, Global};
 use std::process::Abort;
 use std::test::Fail;
@@ -134,7 +138,10 @@ fn same_bytes(
     at: usize,
     bits: usize,
     count: usize,
-) -> bool {
+) -> bool
+    requires bytes { at + count ≤ 128 }
+    requires bits { bits + count ≤ 128 }
+{
     for place in 0..count {
         let specified = step[bits + place / 8] >> (place % 8) & 1;
         let is_known = list[bits + place / 8] >> (place % 8) & 1;
@@ -184,8 +191,18 @@ fn expect_rows(rt: &impl Abort, alloc: Global, rows: &[Row]) -> Result<(), Fail>
 }
 
 #[test]
-fn calculates(rt: HostRuntime) -> Result<(), Fail> {
-    expect_rows(&rt, rt.alloc(), &ARITHMETIC)
+fn adds_and_compares(rt: HostRuntime) -> Result<(), Fail> {
+    expect_rows(&rt, rt.alloc(), &SUMS)
+}
+
+#[test]
+fn multiplies(rt: HostRuntime) -> Result<(), Fail> {
+    expect_rows(&rt, rt.alloc(), &PRODUCTS)
+}
+
+#[test]
+fn shifts(rt: HostRuntime) -> Result<(), Fail> {
+    expect_rows(&rt, rt.alloc(), &SHIFTS)
 }
 
 #[test]
