@@ -1,5 +1,11 @@
 // The start of a run from a name of one or two letters alone (System V ABI, Intel386 supplement, "Process Initialization"), by hand: 128 bytes
 // that end at BFFF0000, with the name behind six words.
+ghost use Rattle.std.specs.Prelude.{◌≡◌, length};
+
+use image::Image;
+use mem_pages::Pages;
+use std::alloc::{AllocError, Global};
+use x86_machine::first_pages;
 
 /// The address at which the stack begins.
 pub const ESP0: u32 = 0xBFFE_FF80;
@@ -16,4 +22,11 @@ pub fn stack_of(name: [u8; 2]) -> [u8; 128] {
     stack[24] = name[0];
     stack[25] = name[1];
     stack
+}
+
+/// The memory of that start: the pages of an image, and the stack.
+pub fn start_pages(alloc: Global, image: &Image, stack: &[u8]) -> Result<Pages, AllocError>
+    requires { length stack.now ≡ 128 }
+{
+    first_pages(alloc, image, stack, ESP0)
 }

@@ -2,7 +2,7 @@
 ghost use Rattle.std.specs.Prelude.{IfOk};
 ghost use Rattle.flag_ir.specs.Form.{IsInForm};
 
-use crate::starts::{ESP0, stack_of};
+use crate::starts::{ESP0, stack_of, start_pages};
 use code_discovery::discover;
 use flag_ir::Unit;
 use image::{Image, fits_wide_room};
@@ -13,7 +13,6 @@ use sw_host::MemoryHost;
 use unit_form::needs_no_frame;
 use unit_machine::{UnitEnd, run_unit};
 use whole_code::{above_law, whole};
-use x86_machine::first_pages;
 
 /// More operations and exits than a run of a worked program takes.
 const BUDGET: u64 = 100_000;
@@ -39,7 +38,7 @@ pub fn end_of(
     let unit = unit_of(alloc, image)?;
     assert!(rt; needs_no_frame(&unit));
     let stack = stack_of(name);
-    let mut pages = first_pages(alloc, image, &stack, ESP0)?;
+    let mut pages = start_pages(alloc, image, &stack)?;
     let end = run_unit(alloc, &unit, &mut pages, image.entry, ESP0, host, BUDGET)?;
     Ok(end)
 }
