@@ -2,7 +2,7 @@
 """Times the unit of a whole program, by unit_listing with it and without it, in one run.
 
 Each file is made here, of 32,768 found instructions or fewer: jumps that are spread over 4 MiB; straight code of the common forms; conditional jumps to addresses
-at which nothing is found; repeats. What is printed is the time that reading and finding take, and how much more it is with the unit. 32,768 instructions may take 0.2 s more,
+at which nothing is found; repeats. What is printed is the processor time that reading and finding take, and how much more it is with the unit. 32,768 instructions may take 0.2 s more,
 and twice the size may cost at most 2.5 times as much. The status is 0 where that is so, 1 where it isn't, and 3 where nothing was measured, since the program isn't there.
 """
 
@@ -13,8 +13,8 @@ import sys
 import tempfile
 
 sys.dont_write_bytecode = True
-from find_code import RET, code_alone, jump  # noqa: E402
-from timing import best_time, built  # noqa: E402
+from find_code import MIB, RET, code_alone, jump  # noqa: E402
+from timing import best_processor_time, built  # noqa: E402
 
 CALLS = 9
 GROWTH = 2.5
@@ -36,9 +36,8 @@ def straight(size):
 
 
 def branches_out(size):
-    """JE to addresses past the code, where no instruction stands, and a RET."""
-    code = b"".join(b"\x0F\x84" + struct.pack("<i", 6 * (size - place) + 4096 * 64) for place in range(size - 1))
-    return code_alone(code + RET)
+    """JE to addresses 16 MiB on, where no instruction stands, and a RET."""
+    return code_alone((b"\x0F\x84" + struct.pack("<i", 16 * MIB)) * (size - 1) + RET)
 
 
 def repeats(size):
@@ -65,9 +64,9 @@ def main():
                 file.write(content)
             with open(path, "rb") as file:
                 said = subprocess.run([program], stdin=file, capture_output=True, text=True, check=True).stdout
-            found = best_time([program, "found"], CALLS, 0, path)
-            more = max(best_time([program], CALLS, 0, path) - found, 0.0)
-            print(f"{name:28} {1000 * found:8.1f} ms without the unit, {1000 * more:8.1f} ms more with it; {', '.join(said.split(chr(10))[:3])}")
+            found = best_processor_time([program, "found"], CALLS, path)
+            more = max(best_processor_time([program], CALLS, path) - found, 0.0)
+            print(f"{name:28} {1000 * found:8.1f} ms without the unit, {1000 * more:8.1f} ms more with it; {', '.join(said.splitlines())}")
             return more
 
         for name, made in SHAPES:
