@@ -16,7 +16,7 @@ sys.dont_write_bytecode = True
 from find_code import MIB, RET, code_alone, jump  # noqa: E402
 from timing import best_processor_time, built  # noqa: E402
 
-CALLS = 9
+CALLS = 25
 GROWTH = 2.5
 MOST = 0.2
 SIZE = 32768
