@@ -12,3 +12,4 @@ mod tests;
 mod turn;
 
 pub use machine::Machine;
+pub use start::first_pages;

@@ -110,8 +110,8 @@ fn add_stack(pages: &mut Pages, stack: &[u8], esp0: u32) -> Result<(), AllocErro
     add_filled(pages, start, end, true, Byte::Unspecified, esp0, stack)
 }
 
-/// The memory at the start: the pages of an image, and the stack.
-pub(crate) fn first_pages(
+/// The memory at the start of a run: the pages of an image, and the stack, whose bytes stand from `esp0` on.
+pub fn first_pages(
     alloc: Global,
     image: &Image,
     stack: &[u8],

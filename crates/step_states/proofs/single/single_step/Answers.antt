@@ -2,8 +2,8 @@ use Rattle.std.proofs.Common.{◌≡◌, ℕ, Option, Some, None, refl, sym, sub
 use Rattle.x86_types.specs.declared.instr.Instr.{Instr}
 use Rattle.x86_grammar.specs.Front.{front}
 use Rattle.mem_pages.specs.Contents.{memory_in}
-use Rattle.single_steps.specs.Single.{StepsBy}
-use Rattle.single_steps.proofs.single.single_step.Goals as goal
+use Rattle.step_states.specs.Single.{StepsBy}
+use Rattle.step_states.proofs.single.single_step.Goals as goal
 
 none_if : (o : Option (Instr × ℕ)) → ((i : Instr) (len : ℕ) → o ≡ Some (i, len) → ⊥) → o ≡ None
 none_if None h = refl

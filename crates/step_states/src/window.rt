@@ -24,18 +24,18 @@ pub fn mapped(alloc: Global) -> Result<Pages, AllocError> {
     Ok(pages)
 }
 
-/// Puts the record's bytes from 64 on into the window.
-pub fn fill_window(record: &[u8], pages: &mut Pages) -> Result<(), AllocError>
-    requires { length record.now ≡ 128 }
+/// Puts a record's bytes from 64 on into the window.
+pub fn fill_window(bytes: &[u8], pages: &mut Pages) -> Result<(), AllocError>
+    requires { length bytes.now ≡ 128 }
 {
-    match pages.fill(WINDOW, &record[64..128]) {
+    match pages.fill(WINDOW, &bytes[64..128]) {
         Ok(()) => Ok(()),
         Err(PageFault::NotMapped | PageFault::NotWritable | PageFault::Memory) => Err(AllocError),
     }
 }
 
 /// Puts the window's bytes into the answer, from byte 64 on.
-pub fn windowed(pages: &Pages, answer: &mut [u8; RECORD]) {
+pub(crate) fn put_window(pages: &Pages, answer: &mut [u8; RECORD]) {
     for offset in 0..64usize {
         if let Ok(byte) = pages.read(WINDOW + offset as u32) {
             put_byte(byte, answer, 64 + offset, 44, offset);

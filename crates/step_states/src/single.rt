@@ -1,6 +1,6 @@
 // One step of the instruction that some bytes begin with.
 ghost use Rattle.mem_pages.specs.Contents.{memory_in};
-ghost use Rattle.single_steps.specs.Single.{MakesOne};
+ghost use Rattle.step_states.specs.Single.{MakesOne};
 
 use mem_pages::Pages;
 use std::alloc::AllocError;
