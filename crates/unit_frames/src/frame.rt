@@ -1,0 +1,67 @@
+// One open frame.
+ghost use Rattle.std.specs.Prelude.{◌≡◌, ◌+◌, ◌*◌, ◌-◌, length};
+
+use flag_ir::FrameKind;
+use x86_values::{Byte, Word};
+
+/// An open frame of a procedure, which it names by its index among the unit's; it keeps that procedure's kind, depth and argument words. Its bytes
+/// stand from its lowest address on, `depth` below its height, or from 0 on where the height is less.
+#[derive(Debug, Drop)]
+pub struct OpenFrame {
+    pub(crate) proc: usize,
+    pub(crate) kind: FrameKind,
+    pub(crate) depth: u32,
+    pub(crate) args: u32,
+    pub(crate) height: u32,
+    pub(crate) word: Word,
+    pub(crate) ebp: Word,
+    pub(crate) back: Option<u32>,
+    pub(crate) bytes: Vec<Byte>,
+    pub(crate) locals: Vec<Word>,
+    ghost whole: { length bytes.items ≡ height + 4 + 4 * args - (height - depth) },
+}
+
+impl OpenFrame {
+    ghost use Rattle.std.specs.Prelude.{◌≡◌, ◌+◌, ◌*◌, ◌-◌, ◌^◌, ◌<◌, ◌≤◌, List, true, length};
+    ghost use Rattle.flag_ir.specs.declared.procedure.Proc.{Proc};
+    ghost use Rattle.flag_ir.specs.Frames as spec;
+    ghost use Rattle.unit_frames.specs.Kept.{low_of, end_of, is_in, frame_of, image_of};
+
+    // Its lowest address.
+    fn low(&self) -> u32
+        ensures { result ≡ low_of self.now }
+    {
+        self.height.saturating_sub(self.depth)
+    }
+
+    // The end of its argument words.
+    fn top(&self) -> u64
+        ensures { result ≡ end_of self.now }
+    {
+        self.height as u64 + 4 + 4 * self.args as u64
+    }
+
+    /// Whether it covers an address.
+    pub(crate) fn covers(&self, at: u32) -> bool
+        ensures { result ≡ is_in at self.now }
+    {
+        self.height as u64 <= at as u64 + self.depth as u64 && (at as u64) < self.top()
+    }
+
+    /// The byte at an address that it covers.
+    pub(crate) fn byte(&self, at: u32) -> Byte
+        requires { is_in at self.now ≡ true }
+        ensures { result ≡ image_of self.now at }
+    {
+        self.bytes[(at - self.low()) as usize]
+    }
+
+    /// Makes the byte at an address that it covers another.
+    pub(crate) fn put(&mut self, at: u32, byte: Byte)
+        requires { is_in at self.old ≡ true }
+        ensures { (procs : List Proc) → frame_of procs self.new ≡ spec.with_image at byte (frame_of procs self.old) }
+    {
+        let place = (at - self.low()) as usize;
+        self.bytes[place] = byte;
+    }
+}

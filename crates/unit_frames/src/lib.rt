@@ -1,0 +1,8 @@
+//! The open frames of a unit's run: their bytes, locals, and the accesses that stay in them.
+#![tactic(auto)]
+
+mod frame;
+mod frames;
+
+pub use frame::OpenFrame;
+pub use frames::OpenFrames;
