@@ -1,16 +1,27 @@
-// The open frames of a run.
-ghost use Rattle.std.specs.Prelude.{◌≡◌, not, List, length, take, position, Option, Some, None};
+// The open frames of a run, and which of them have an address.
+ghost use Rattle.std.specs.Prelude.{◌≡◌, ◌≤◌, not, List, [], length, take, position, true, false};
 ghost use Rattle.flag_ir.specs.Frames as spec;
-ghost use Rattle.unit_frames.specs.Kept.{is_in};
 
 use crate::frame::OpenFrame;
 use flag_ir::FrameKind;
+use std::alloc::Global;
 use std::collections::VecDeque;
+use std::marker::Model;
+use x86_values::Byte;
 
-/// The open frames of a run, the innermost first.
+/// The open frames of a run, the innermost first. Contracts see their list.
 #[derive(Drop)]
 pub struct OpenFrames {
-    pub(crate) frames: VecDeque<OpenFrame>,
+    frames: VecDeque<OpenFrame>,
+}
+
+impl Model for OpenFrames {
+    ghost use Rattle.std.specs.Prelude.{List};
+    ghost use Rattle.unit_frames.specs.declared.frame.OpenFrame.{OpenFrame};
+
+    ghost Value = { List OpenFrame };
+
+    ghost view = { λ o. o.frames.items };
 }
 
 // Whether frames of a kind are in chains.
@@ -20,16 +31,77 @@ fn is_shared(kind: FrameKind) -> bool
     matches!(kind, FrameKind::Shared)
 }
 
-// The first frame that isn't Shared.
-fn first_apart(frames: &VecDeque<OpenFrame>) -> Option<usize>
-    ensures { result ≡ position (λ f. not (spec.is_shared f.kind)) frames.now.items }
-{
-    frames.iter().position(|f| !is_shared(f.kind))
-}
+impl OpenFrames {
+    ghost use Rattle.flag_ir.specs.declared.procedure.Proc.{Proc};
+    ghost use Rattle.unit_frames.specs.Kept.{is_in, frame_of, frames_of};
+    ghost use Rattle.unit_frames.specs.Looking.{innermost_kind, shared_count, reached_count, byte_kept, put_in};
 
-// Which of the innermost frames is the first that covers an address.
-fn first_cover(frames: &VecDeque<OpenFrame>, count: usize, at: u32) -> Option<usize>
-    ensures { result ≡ position (λ f. is_in at f) (take count frames.now.items) }
-{
-    frames.iter().take(count).position(|f| f.covers(at))
+    /// No frame is open.
+    pub fn new(alloc: Global) -> OpenFrames
+        ensures { result ≡ [] }
+    {
+        OpenFrames {
+            frames: VecDeque::new(alloc),
+        }
+    }
+
+    // The kind of the innermost frame.
+    fn kind(&self) -> Option<FrameKind>
+        ensures { result ≡ innermost_kind self.now }
+    {
+        match self.frames.front() {
+            None => None,
+            Some(frame) => Some(frame.kind),
+        }
+    }
+
+    // The first frame that isn't Shared.
+    fn first_apart(&self) -> Option<usize>
+        ensures { result ≡ position (λ f. not (spec.is_shared f.kind)) self.now }
+    {
+        self.frames.iter().position(|f| !is_shared(f.kind))
+    }
+
+    // How many of the innermost frames are Shared.
+    #[tactic(auto, using(crate::proofs::Looking::first_of_none, crate::proofs::Looking::first_of_some))]
+    fn shared(&self) -> usize
+        ensures { result ≡ shared_count self.now }
+    {
+        match self.first_apart() {
+            None => self.frames.len(),
+            Some(count) => count,
+        }
+    }
+
+    /// How many frames the addresses of the running procedure reach: the innermost ones.
+    #[tactic(auto, using(crate::proofs::Reaching::reached_are))]
+    pub fn reached(&self) -> usize
+        ensures count { result ≡ reached_count self.now }
+        ensures frames { (procs : List Proc) → spec.reached_frames (frames_of procs self.now) ≡ take result (frames_of procs self.now) }
+    {
+        match self.kind() {
+            None => 0,
+            Some(FrameKind::Sealed) => 0,
+            Some(FrameKind::Guarded) => 1,
+            Some(FrameKind::Shared) => self.shared(),
+        }
+    }
+
+    // The first of so many innermost frames that covers an address.
+    fn first_cover(&self, count: usize, at: u32) -> Option<usize>
+        ensures { result ≡ position (λ f. is_in at f) (take count self.now) }
+    {
+        self.frames.iter().take(count).position(|f| f.covers(at))
+    }
+
+    /// The byte at an address in the first of so many innermost frames that covers it.
+    #[tactic(auto, using(crate::proofs::Looking::none_kept, crate::proofs::Looking::is_covered, crate::proofs::Looking::kept_there, crate::proofs::Looking::covered_there))]
+    pub(crate) fn byte(&self, count: usize, at: u32) -> Option<Byte>
+        ensures { result ≡ byte_kept count at self.now }
+    {
+        match self.first_cover(count, at) {
+            None => None,
+            Some(place) => Some(self.frames[place].byte(at)),
+        }
+    }
 }
