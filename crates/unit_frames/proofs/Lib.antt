@@ -1,2 +1,5 @@
 pub mod Reaching
 pub mod Looking
+pub mod Putting
+pub mod Covering
+pub mod Accesses

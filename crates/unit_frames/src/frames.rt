@@ -1,13 +1,16 @@
 // The open frames of a run, and which of them have an address.
-ghost use Rattle.std.specs.Prelude.{◌≡◌, ◌≤◌, not, List, [], length, take, position, true, false};
+ghost use Rattle.std.specs.Prelude.{◌≡◌, ◌≤◌, not, List, [], length, take, position, find, true, false};
+ghost use Rattle.std.specs.Option.{is_some};
 ghost use Rattle.flag_ir.specs.Frames as spec;
+ghost use Rattle.unit_frames.specs.Looking as words;
+ghost use Rattle.unit_frames.specs.Looking.{innermost_kind, shared_count, reached_count, byte_kept, word_kept, put_in};
 
 use crate::frame::OpenFrame;
 use flag_ir::FrameKind;
 use std::alloc::Global;
 use std::collections::VecDeque;
 use std::marker::Model;
-use x86_values::Byte;
+use x86_values::{Byte, Word};
 
 /// The open frames of a run, the innermost first. Contracts see their list.
 #[derive(Drop)]
@@ -31,10 +34,20 @@ fn is_shared(kind: FrameKind) -> bool
     matches!(kind, FrameKind::Shared)
 }
 
+// The word of four bytes, the lowest first, where each is there.
+fn joined(b0: Option<Byte>, b1: Option<Byte>, b2: Option<Byte>, b3: Option<Byte>) -> Option<Word>
+    ensures { result ≡ words.joined b0 b1 b2 b3 }
+{
+    match (b0, b1, b2, b3) {
+        (Some(b0), Some(b1), Some(b2), Some(b3)) => Some(Word { b0, b1, b2, b3 }),
+        _ => None,
+    }
+}
+
 impl OpenFrames {
     ghost use Rattle.flag_ir.specs.declared.procedure.Proc.{Proc};
+    ghost use Rattle.x86_values.specs.Sizes.{IsSize};
     ghost use Rattle.unit_frames.specs.Kept.{is_in, frame_of, frames_of};
-    ghost use Rattle.unit_frames.specs.Looking.{innermost_kind, shared_count, reached_count, byte_kept, put_in};
 
     /// No frame is open.
     pub fn new(alloc: Global) -> OpenFrames
@@ -102,6 +115,42 @@ impl OpenFrames {
         match self.first_cover(count, at) {
             None => None,
             Some(place) => Some(self.frames[place].byte(at)),
+        }
+    }
+
+    /// Whether one of so many innermost frames covers an address.
+    pub(crate) fn covers(&self, count: usize, at: u32) -> bool
+        ensures { (procs : List Proc) → result ≡ is_some (find (spec.covers at) (take count (frames_of procs self.now))) }
+    {
+        self.first_cover(count, at).is_some()
+    }
+
+    /// The word of the `size` bytes from an address on in the first of so many innermost frames that cover them.
+    #[tactic(auto, unfolding(crate::specs::Looking::word_kept))]
+    pub(crate) fn word(&self, count: usize, at: u32, size: u8) -> Option<Word>
+        requires { IsSize size }
+        ensures { result ≡ word_kept count at size self.now }
+    {
+        let zero = Some(Byte::Known(0));
+        let b0 = self.byte(count, at);
+        if size == 1 {
+            return joined(b0, zero, zero, zero);
+        }
+        let b1 = self.byte(count, at.wrapping_add(1));
+        if size == 2 {
+            return joined(b0, b1, zero, zero);
+        }
+        let b2 = self.byte(count, at.wrapping_add(2));
+        let b3 = self.byte(count, at.wrapping_add(3));
+        joined(b0, b1, b2, b3)
+    }
+
+    /// Makes the byte at an address another, in the first of so many innermost frames that covers it.
+    pub(crate) fn put(&mut self, count: usize, at: u32, byte: Byte)
+        ensures { (procs : List Proc) → frames_of procs self.new ≡ put_in count at byte (frames_of procs self.old) }
+    {
+        if let Some(place) = self.first_cover(count, at) {
+            self.frames[place].put(at, byte);
         }
     }
 }

@@ -3,6 +3,7 @@
 
 mod frame;
 mod frames;
+mod near;
 
 pub use frame::OpenFrame;
 pub use frames::OpenFrames;
