@@ -1,19 +1,24 @@
 -- Accesses by addresses of the running procedure.
-use Rattle.std.proofs.Common.{◌≡◌, ℕ, zero, suc, ◌+◌, ◌<◌, ◌^◌, ◌&&◌, Bool, true, false, cond, List, [], ◌∷◌, take, position, Option, Some, None, refl, sym, ap, ◌∙◌, arith}
+use Rattle.std.proofs.Common.{◌≡◌, ℕ, zero, suc, ◌+◌, ◌<◌, ◌≤◌, ◌^◌, ◌==◌, ◌&&◌, ◌||◌, Bool, true, false, cond, List, [], ◌∷◌, length, take, position, Option, Some, None, refl, sym, ap, ◌∙◌, arith}
 use Rattle.std.specs.List.{find}
 use Rattle.std.specs.Option.{option_map, is_some}
+use Rattle.x86_values.specs.declared.byte.Byte.{Byte}
 use Rattle.x86_values.specs.declared.word.Word.{Word}
+use Rattle.x86_values.specs.Words.{word_list}
 use Rattle.x86_values.specs.Sizes.{IsSize}
+use Rattle.std.proofs.lemmas.Bool.{eqb-true}
+use Rattle.std.proofs.lemmas.List.{length-take-le}
 use Rattle.memory.specs.Memory.{Memory, wrapped}
 use Rattle.flag_ir.specs.declared.procedure.Proc.{Proc}
 use Rattle.flag_ir.specs.Storage.{Frame}
-use Rattle.flag_ir.specs.Frames.{covers, all_covered, reached_frames}
+use Rattle.flag_ir.specs.Frames.{covers, all_covered, reached_frames, put_near_all}
 use Rattle.unit_frames.specs.declared.frame.OpenFrame.{OpenFrame}
 use Rattle.unit_frames.specs.Kept.{is_in, frame_of, frames_of}
-use Rattle.unit_frames.specs.Looking.{word_kept, reached_count, loaded_in}
+use Rattle.unit_frames.specs.Looking.{word_kept, reached_count, loaded_in, put_all_in}
 use Rattle.unit_frames.proofs.Looking.{is_first, found_first, none_found}
 use Rattle.unit_frames.proofs.Covering.{found_kept, word_loaded}
 use Rattle.unit_frames.proofs.Reaching.{reached_are}
+use Rattle.unit_frames.proofs.Storing.{near_all}
 
 pub near_loads : (procs : List Proc) (m : Memory) (at size : ℕ) (fs : List OpenFrame) → IsSize size → at < 2 ^ 32 → word_kept (reached_count fs) at size fs ≡ loaded_in (reached_frames (frames_of procs fs)) m at size
 near_loads procs m at size fs h small = word_loaded procs m (reached_count fs) at size fs h small ∙ ap (λ (x : List Frame). loaded_in x m at size) (sym (reached_are procs fs))
@@ -55,3 +60,17 @@ not_covered (suc n) frames at (suc k) less h = later (is_some (find (covers (wra
     later : (t : Bool) → all_covered frames (at + 1) n ≡ false → (t && all_covered frames (at + 1) n) ≡ false
     later true e = e
     later false e = refl
+
+-- ---- a store
+pub near_stored : (procs : List Proc) (at : ℕ) (bs : List Byte) (fs gs : List OpenFrame) → all_covered (take (reached_count fs) (frames_of procs fs)) at (length bs) ≡ true → frames_of procs gs ≡ put_all_in (reached_count fs) at bs (frames_of procs fs) → frames_of procs gs ≡ put_near_all at bs (frames_of procs fs)
+near_stored procs at bs fs gs covered put = put ∙ near_all bs (reached_count fs) at (frames_of procs fs) (reached_are procs fs) covered
+
+-- the lowest bytes of a word are as many as its size says
+pub word_size : (size : ℕ) (w : Word) → IsSize size → length (take size (word_list w)) ≡ size
+word_size size w h = length-take-le size (word_list w) (few (size == 1) (size == 2) (size == 4) refl refl refl h)
+  where
+    few : (a b c : Bool) → (size == 1) ≡ a → (size == 2) ≡ b → (size == 4) ≡ c → (a || b || c) ≡ true → size ≤ 4
+    few true b c one two four e = let is : size ≡ 1 = eqb-true size 1 one in omega arith
+    few false true c one two four e = let is : size ≡ 2 = eqb-true size 2 two in omega arith
+    few false false true one two four e = let is : size ≡ 4 = eqb-true size 4 four in omega arith
+    few false false false one two four e = absurd (cc e)

@@ -3,3 +3,4 @@ pub mod Looking
 pub mod Putting
 pub mod Covering
 pub mod Accesses
+pub mod Storing

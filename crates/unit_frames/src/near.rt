@@ -44,4 +44,20 @@ impl OpenFrames {
     {
         self.word(self.reached(), at, size)
     }
+
+    /// Stores the lowest `size` bytes of a word, 1, 2 or 4, from an address on in the frames that the running procedure reaches, if each of them is
+    /// in such a frame; else nothing changes. Addresses wrap at 2^32.
+    pub fn near_store(&mut self, at: u32, size: u8, word: Word) -> bool
+        requires { IsSize size }
+        ensures covered { (procs : List Proc) → result ≡ all_covered (reached_frames (frames_of procs self.old)) at size }
+        ensures stored { (procs : List Proc) → frames_of procs self.new ≡ cond result (put_near_all at (take size (word_list word)) (frames_of procs self.old)) (frames_of procs self.old) }
+    {
+        let count = self.reached();
+        if !self.covers_all(count, at, size as u32) {
+            return false;
+        }
+        let bytes = [word.b0, word.b1, word.b2, word.b3];
+        self.put_each(count, at, &bytes[..size as usize]);
+        true
+    }
 }
