@@ -4,3 +4,5 @@ pub mod Putting
 pub mod Covering
 pub mod Accesses
 pub mod Storing
+pub mod FixedPlaces
+pub mod Outermost

@@ -1,12 +1,12 @@
 -- What is kept of open frames, and the frames that it stands for. All of this is own.
-use Rattle.std.specs.Prelude.{ℕ, ◌+◌, ◌-◌, ◌*◌, ◌&&◌, Bool, cond, leb, ltb, List, [], map, slice_index_or}
+use Rattle.std.specs.Prelude.{ℕ, ◌+◌, ◌-◌, ◌*◌, ◌&&◌, Bool, cond, leb, ltb, List, [], map, slice_get, slice_index_or}
 use Rattle.x86_values.specs.declared.byte.Byte.{Byte}
 use Rattle.x86_values.specs.declared.byte.Byte.TheVariants.{Unspecified}
 use Rattle.x86_values.specs.declared.word.Word.{Word}
 use Rattle.x86_values.specs.Sizes.{no_word}
 use Rattle.flag_ir.specs.declared.procedure.FrameKind.TheVariants.{Sealed}
 use Rattle.flag_ir.specs.declared.procedure.Proc.{Proc}
-use Rattle.flag_ir.specs.Storage.{Frame}
+use Rattle.flag_ir.specs.Storage.{Frame, put_word, cut_to}
 use Rattle.unit_frames.specs.declared.frame.OpenFrame.{OpenFrame}
 
 -- the lowest address that it covers
@@ -41,3 +41,7 @@ frame_of procs f = record { proc = proc_of procs f; height = f.height; word = f.
 
 abbrev pub frames_of : List Proc → List OpenFrame → List Frame
 frames_of procs fs = map (frame_of procs) fs
+
+-- a local of a frame becomes a word
+abbrev pub with_word : ℕ → Word → Frame → Frame
+with_word n w f = record f { locals = put_word n (cut_to (slice_get f.proc.locals n) w) f.locals }

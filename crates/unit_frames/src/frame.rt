@@ -1,7 +1,8 @@
 // One open frame.
 ghost use Rattle.std.specs.Prelude.{◌≡◌, ◌+◌, ◌*◌, ◌-◌, length};
 
-use flag_ir::FrameKind;
+use crate::locals::{cut_local, no_word};
+use flag_ir::{FrameKind, Proc};
 use x86_values::{Byte, Word};
 
 /// An open frame of a procedure, which it names by its index among the unit's; it keeps that procedure's kind, depth and argument words. Its bytes
@@ -25,7 +26,7 @@ impl OpenFrame {
     ghost use Rattle.std.specs.Prelude.{◌≡◌, ◌+◌, ◌*◌, ◌-◌, ◌^◌, ◌<◌, ◌≤◌, List, true, length};
     ghost use Rattle.flag_ir.specs.declared.procedure.Proc.{Proc};
     ghost use Rattle.flag_ir.specs.Frames as spec;
-    ghost use Rattle.unit_frames.specs.Kept.{low_of, end_of, is_in, frame_of, image_of};
+    ghost use Rattle.unit_frames.specs.Kept.{low_of, end_of, is_in, frame_of, image_of, local_of, with_word};
 
     // Its lowest address.
     fn low(&self) -> u32
@@ -34,8 +35,8 @@ impl OpenFrame {
         self.height.saturating_sub(self.depth)
     }
 
-    // The end of its argument words.
-    fn top(&self) -> u64
+    /// The end of its argument words.
+    pub(crate) fn top(&self) -> u64
         ensures { result ≡ end_of self.now }
     {
         self.height as u64 + 4 + 4 * self.args as u64
@@ -63,5 +64,23 @@ impl OpenFrame {
     {
         let place = (at - self.low()) as usize;
         self.bytes[place] = byte;
+    }
+
+    /// The word of a local; a further one is unspecified.
+    pub(crate) fn local(&self, n: u32) -> Word
+        ensures { result ≡ local_of self.now n }
+    {
+        match self.locals.as_slice().get(n as usize) {
+            None => no_word(),
+            Some(word) => *word,
+        }
+    }
+
+    /// Makes a local a word, of which it holds as many bytes as its size says.
+    pub(crate) fn put_local(&mut self, procs: &[Proc], n: u32, word: Word)
+        requires { n < length self.old.locals.items }
+        ensures { frame_of procs.now self.new ≡ with_word n word (frame_of procs.now self.old) }
+    {
+        self.locals[n as usize] = cut_local(procs, self.proc, n as usize, word);
     }
 }

@@ -2,6 +2,7 @@
 ghost use Rattle.std.specs.Prelude.{◌≡◌, ◌≤◌, not, List, [], length, take, position, find, true, false};
 ghost use Rattle.std.specs.Option.{is_some};
 ghost use Rattle.flag_ir.specs.Frames as spec;
+ghost use Rattle.unit_frames.specs.Places.{innermost_height};
 ghost use Rattle.unit_frames.specs.Looking as words;
 ghost use Rattle.unit_frames.specs.Looking.{innermost_kind, shared_count, reached_count, byte_kept, word_kept, put_in};
 
@@ -15,7 +16,7 @@ use x86_values::{Byte, Word};
 /// The open frames of a run, the innermost first. Contracts see their list.
 #[derive(Drop)]
 pub struct OpenFrames {
-    frames: VecDeque<OpenFrame>,
+    pub(crate) frames: VecDeque<OpenFrame>,
 }
 
 impl Model for OpenFrames {
@@ -65,6 +66,16 @@ impl OpenFrames {
         match self.frames.front() {
             None => None,
             Some(frame) => Some(frame.kind),
+        }
+    }
+
+    /// The height of the innermost frame.
+    pub(crate) fn height(&self) -> Option<u32>
+        ensures { result ≡ innermost_height self.now }
+    {
+        match self.frames.front() {
+            None => None,
+            Some(frame) => Some(frame.height),
         }
     }
 

@@ -1,8 +1,10 @@
 //! The open frames of a unit's run: their bytes, locals, and the accesses that stay in them.
 #![tactic(auto)]
 
+mod fixed;
 mod frame;
 mod frames;
+mod locals;
 mod near;
 
 pub use frame::OpenFrame;
