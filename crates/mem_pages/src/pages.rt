@@ -71,6 +71,14 @@ impl Pages {
         self.directory.byte(at, at < self.lowest)
     }
 
+    /// The byte of a place, where it is mapped, also past 2^32, where `add_region` maps none.
+    #[tactic(auto, unfolding(crate::specs::Contents::memory_in, memory::specs::Memory::forget_below))]
+    pub fn any_byte(&self, at: u64) -> Option<Byte>
+        ensures { result ≡ option_map (λ (p : Place). p.byte) (memory_in self.now at) }
+    {
+        self.directory.any_byte(at, at < self.lowest as u64)
+    }
+
     /// The byte at an address.
     pub fn read(&self, at: u32) -> Result<Byte, PageFault>
         ensures { result ≡ byte_read (memory_in self.now at) }

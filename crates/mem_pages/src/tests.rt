@@ -21,6 +21,8 @@ fn a_region(rt: HostRuntime) -> Result<(), Fail> {
     pages.add_region(4000, 9000, true, Byte::Known(7))?;
     assert_eq!(rt; pages.read(8999), Ok(Byte::Known(7)));
     assert_eq!(rt; pages.read(9000), Err(PageFault::NotMapped));
+    assert_eq!(rt; pages.any_byte(8999), Some(Byte::Known(7)));
+    assert_eq!(rt; pages.any_byte(4_294_976_295), None);
     pages.write(4095, Byte::Known(1)).ok().ok_or("write")?;
     pages
         .store(4094, 4, word_of(0x0403_0201))

@@ -6,3 +6,4 @@ pub mod Accesses
 pub mod Storing
 pub mod FixedPlaces
 pub mod Outermost
+pub mod Fresh

@@ -1,5 +1,5 @@
 -- What is kept of open frames, and the frames that it stands for. All of this is own.
-use Rattle.std.specs.Prelude.{ℕ, ◌+◌, ◌-◌, ◌*◌, ◌&&◌, Bool, cond, leb, ltb, List, [], map, slice_get, slice_index_or}
+use Rattle.std.specs.Prelude.{ℕ, ◌+◌, ◌-◌, ◌*◌, ◌&&◌, Bool, cond, leb, ltb, List, [], map, slice_get, slice_index_or, sum_by}
 use Rattle.x86_values.specs.declared.byte.Byte.{Byte}
 use Rattle.x86_values.specs.declared.byte.Byte.TheVariants.{Unspecified}
 use Rattle.x86_values.specs.declared.word.Word.{Word}
@@ -20,9 +20,12 @@ end_of f = f.height + 4 + 4 * f.args
 abbrev pub is_in : ℕ → OpenFrame → Bool
 is_in a f = leb f.height (a + f.depth) && ltb a (end_of f)
 
--- the byte at an address; past its ends it is unspecified
+-- the byte at an address, of bytes that stand from a lowest address on; beside them it is unspecified
+abbrev pub byte_from : ℕ → List Byte → ℕ → Byte
+byte_from low bytes a = cond (leb low a) (slice_index_or bytes (a - low) Unspecified) Unspecified
+
 abbrev pub image_of : OpenFrame → ℕ → Byte
-image_of f a = cond (leb (low_of f) a) (slice_index_or f.bytes.items (a - low_of f) Unspecified) Unspecified
+image_of f a = byte_from (low_of f) f.bytes.items a
 
 -- the word of a local; a further one is unspecified
 abbrev pub local_of : OpenFrame → ℕ → Word
@@ -45,3 +48,10 @@ frames_of procs fs = map (frame_of procs) fs
 -- a local of a frame becomes a word
 abbrev pub with_word : ℕ → Word → Frame → Frame
 with_word n w f = record f { locals = put_word n (cut_to (slice_get f.proc.locals n) w) f.locals }
+
+-- what the frames take up
+abbrev pub takes : ℕ → ℕ → ℕ
+takes depth args = 2 * (depth + 4 + 4 * args) + 256
+
+abbrev pub taken_of : List OpenFrame → ℕ
+taken_of fs = sum_by (λ f. takes f.depth f.args) fs

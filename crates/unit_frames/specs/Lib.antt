@@ -1,3 +1,4 @@
 pub mod Kept
 pub mod Looking
 pub mod Places
+pub mod Opened

@@ -26,6 +26,7 @@ impl OpenFrame {
     ghost use Rattle.std.specs.Prelude.{◌≡◌, ◌+◌, ◌*◌, ◌-◌, ◌^◌, ◌<◌, ◌≤◌, List, true, length};
     ghost use Rattle.flag_ir.specs.declared.procedure.Proc.{Proc};
     ghost use Rattle.flag_ir.specs.Frames as spec;
+    ghost use Rattle.unit_frames.specs.Opened.{byte_if};
     ghost use Rattle.unit_frames.specs.Kept.{low_of, end_of, is_in, frame_of, image_of, local_of, with_word};
 
     // Its lowest address.
@@ -82,5 +83,20 @@ impl OpenFrame {
         ensures { frame_of procs.now self.new ≡ with_word n word (frame_of procs.now self.old) }
     {
         self.locals[n as usize] = cut_local(procs, self.proc, n as usize, word);
+    }
+
+    /// The byte at an address, where it covers the address, also past 2^32.
+    #[tactic(auto, using(std::proofs::lemmas::Bool::Decides::nat_tests))]
+    pub(crate) fn byte_if(&self, at: u64) -> Option<Byte>
+        ensures { result ≡ byte_if self.now at }
+    {
+        let low = self.low() as u64;
+        if at < low {
+            return None;
+        }
+        match self.bytes.as_slice().get((at - low) as usize) {
+            None => None,
+            Some(byte) => Some(*byte),
+        }
     }
 }

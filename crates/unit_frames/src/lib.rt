@@ -6,6 +6,8 @@ mod frame;
 mod frames;
 mod locals;
 mod near;
+mod opening;
 
 pub use frame::OpenFrame;
 pub use frames::OpenFrames;
+pub use opening::FrameStart;
