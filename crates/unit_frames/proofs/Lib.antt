@@ -7,3 +7,5 @@ pub mod Storing
 pub mod FixedPlaces
 pub mod Outermost
 pub mod Fresh
+pub mod NewFrames
+pub mod Deep

@@ -2,13 +2,14 @@
 use Rattle.std.proofs.Common.{◌≡◌, ℕ, zero, suc, ◌+◌, ◌<◌, ◌≤◌, not, Bool, true, false, cond, List, [], ◌∷◌, ◌++◌, length, get_or, set, take, position, Option, Some, None, refl, sym, ap, ◌∙◌, arith}
 use Rattle.std.specs.List.{find, position_or_len}
 use Rattle.std.proofs.lemmas.List.{map-set, length-take-le, take_more, take_all}
+use Rattle.std.proofs.lemmas.List.Sums.{sum_by-cons}
 use Rattle.x86_values.specs.declared.byte.Byte.{Byte}
 use Rattle.memory.specs.Memory.{wrapped}
 use Rattle.flag_ir.specs.declared.procedure.Proc.{Proc}
 use Rattle.flag_ir.specs.Storage.{Frame}
 use Rattle.flag_ir.specs.Frames.{with_image}
 use Rattle.unit_frames.specs.declared.frame.OpenFrame.{OpenFrame}
-use Rattle.unit_frames.specs.Kept.{is_in, frame_of, frames_of}
+use Rattle.unit_frames.specs.Kept.{is_in, frame_of, frames_of, takes, taken_of, IsTaken}
 use Rattle.unit_frames.specs.Looking.{put_in, put_all_in}
 use Rattle.unit_frames.proofs.Looking.{none_found, is_covered, IsCovered}
 
@@ -63,3 +64,18 @@ put_more n at k bs b d there fs gs hs less is place put done =
 
 pub put_whole : (n at k : ℕ) (bs : List Byte) (fs gs : List Frame) → length bs ≤ k → gs ≡ put_all_in n at (take k bs) fs → gs ≡ put_all_in n at bs fs
 put_whole n at k bs fs gs long done = done ∙ ap (λ (x : List Byte). put_all_in n at x fs) (take_all k bs long)
+
+-- ---- what the frames take up stays
+abbrev taken_by : OpenFrame → ℕ
+taken_by f = takes f.depth f.args
+
+taken_set : (fs : List OpenFrame) (k : ℕ) (f g : OpenFrame) → f ≡ get_or fs k f → takes g.depth g.args ≡ takes f.depth f.args → taken_of (set fs k g) ≡ taken_of fs
+taken_set [] k f g is same = refl
+taken_set (x ∷ xs) zero f g is same = sum_by-cons taken_by g xs ∙ ap (λ (n : ℕ). n + taken_of xs) (same ∙ ap taken_by is) ∙ sym (sum_by-cons taken_by x xs)
+taken_set (x ∷ xs) (suc k) f g is same = sum_by-cons taken_by x (set xs k g) ∙ ap (λ (n : ℕ). taken_by x + n) (taken_set xs k f g is same) ∙ sym (sum_by-cons taken_by x xs)
+
+pub taken_put : (fs : List OpenFrame) (k a : ℕ) (b : Byte) (f g : OpenFrame) (taken : ℕ) → f ≡ get_or fs k f → frame_of [] g ≡ with_image a b (frame_of [] f) → IsTaken taken fs → IsTaken taken (set fs k g)
+taken_put fs k a b f g taken is put h =
+    let depth : g.depth ≡ f.depth = ap (λ (x : Frame). x.proc.depth) put in
+    let args : g.args ≡ f.args = ap (λ (x : Frame). x.proc.args) put in
+    (h.0 ∙ sym (taken_set fs k f g is (ap (λ (d : ℕ). takes d g.args) depth ∙ ap (takes f.depth) args)), h.1)

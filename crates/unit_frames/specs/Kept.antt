@@ -1,5 +1,5 @@
 -- What is kept of open frames, and the frames that it stands for. All of this is own.
-use Rattle.std.specs.Prelude.{ℕ, ◌+◌, ◌-◌, ◌*◌, ◌&&◌, Bool, cond, leb, ltb, List, [], map, slice_get, slice_index_or, sum_by}
+use Rattle.std.specs.Prelude.{◌≡◌, ◌≤◌, ℕ, ◌+◌, ◌-◌, ◌*◌, ◌&&◌, Bool, cond, leb, ltb, List, [], map, slice_get, slice_index_or, sum_by}
 use Rattle.x86_values.specs.declared.byte.Byte.{Byte}
 use Rattle.x86_values.specs.declared.byte.Byte.TheVariants.{Unspecified}
 use Rattle.x86_values.specs.declared.word.Word.{Word}
@@ -55,3 +55,6 @@ takes depth args = 2 * (depth + 4 + 4 * args) + 256
 
 abbrev pub taken_of : List OpenFrame → ℕ
 taken_of fs = sum_by (λ f. takes f.depth f.args) fs
+
+abbrev pub IsTaken : ℕ → List OpenFrame → Type 0
+IsTaken taken fs = (taken ≡ taken_of fs) × (taken ≤ 50331648)

@@ -13,10 +13,11 @@ use std::collections::VecDeque;
 use std::marker::Model;
 use x86_values::{Byte, Word};
 
-/// The open frames of a run, the innermost first. Contracts see their list.
+/// The open frames of a run, the innermost first, and what they take up. Contracts see their list.
 #[derive(Drop)]
 pub struct OpenFrames {
     pub(crate) frames: VecDeque<OpenFrame>,
+    pub(crate) taken: u64,
 }
 
 impl Model for OpenFrames {
@@ -26,6 +27,10 @@ impl Model for OpenFrames {
     ghost Value = { List OpenFrame };
 
     ghost view = { λ o. o.frames.items };
+
+    ghost use Rattle.unit_frames.specs.Kept.{IsTaken};
+
+    ghost invariant = { λ o. IsTaken o.taken o.frames.items };
 }
 
 // Whether frames of a kind are in chains.
@@ -56,6 +61,7 @@ impl OpenFrames {
     {
         OpenFrames {
             frames: VecDeque::new(alloc),
+            taken: 0,
         }
     }
 

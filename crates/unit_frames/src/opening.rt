@@ -1,13 +1,13 @@
 // What a new frame takes from its caller.
-ghost use Rattle.std.specs.Prelude.{◌≡◌, ◌+◌, ◌<◌, ◌≤◌, ◌^◌, ℕ, List, length, cond, leb, map, slice_get, slice_index_or, IfOk};
+ghost use Rattle.std.specs.Prelude.{◌≡◌, ◌+◌, ◌<◌, ◌≤◌, ◌^◌, ℕ, List, length, cond, leb, map, slice_get, slice_index_or, IfOk, OnOk, OnErr, ◌∷◌};
 ghost use Rattle.std.specs.Option.{option_copied};
 ghost use Rattle.mem_pages.specs.Contents.{memory_in};
 ghost use Rattle.memory.specs.Memory.{byte_of};
 ghost use Rattle.x86_values.specs.declared.byte.Byte.TheVariants.{Unspecified};
 ghost use Rattle.x86_values.specs.Sizes as sizes;
-ghost use Rattle.unit_frames.specs.Kept.{byte_from};
+ghost use Rattle.unit_frames.specs.Kept.{byte_from, takes, taken_of};
 ghost use Rattle.unit_frames.specs.Opened as opened;
-ghost use Rattle.unit_frames.specs.Opened.{from_caller, started, IsNewFrame};
+ghost use Rattle.unit_frames.specs.Opened.{from_caller, started, goes_too_deep, IsNewFrame, Opens};
 
 use crate::frame::OpenFrame;
 use crate::frames::OpenFrames;
@@ -61,6 +61,13 @@ fn word_at(bytes: &[Byte], place: usize) -> Word
         b2: bytes[place + 2],
         b3: bytes[place + 3],
     }
+}
+
+// What a frame takes up.
+fn taken_by(depth: u32, args: u32) -> u64
+    ensures { result ≡ takes depth args }
+{
+    2 * (depth as u64 + 4 + 4 * args as u64) + 256
 }
 
 impl OpenFrames {
@@ -146,5 +153,53 @@ impl OpenFrames {
             bytes,
             locals,
         })
+    }
+
+    // Whether a frame of this depth and with these argument words would be too deep.
+    fn goes_too_deep(&self, esp0: u32, height: u32, depth: u32, args: u32) -> bool
+        ensures { result ≡ goes_too_deep esp0 height depth args (taken_of self.now) }
+    {
+        height as u64 + 4194304 < esp0 as u64 + depth as u64
+            || esp0 < height
+            || 50331648 < taken_by(depth, args) + self.taken
+    }
+
+    // Puts a frame before the others.
+    fn push(&mut self, frame: OpenFrame) -> Result<(), AllocError>
+        requires { takes frame.depth frame.args + taken_of self.old ≤ 50331648 }
+        ensures pushed { OnOk result (self.new ≡ frame ∷ self.old) }
+        ensures kept { OnErr result (self.new ≡ self.old) }
+    {
+        let takes = taken_by(frame.depth, frame.args);
+        match self.frames.push_front(frame) {
+            Err(_) => Err(AllocError),
+            Ok(()) => {
+                self.taken += takes;
+                Ok(())
+            }
+        }
+    }
+
+    /// Opens a frame of a procedure of the unit, in a run that began with `esp0` in esp, over a memory; false where it would be too deep, and then
+    /// nothing changes. Its return word and its argument words are what stands there in the caller's frame, or in memory where that has no such address.
+    #[tactic(auto, using(crate::proofs::Deep::opens_frame, crate::proofs::Deep::refuses_frame))]
+    pub fn open(
+        &mut self,
+        alloc: Global,
+        procs: &[Proc],
+        start: FrameStart,
+        esp0: u32,
+        pages: &Pages,
+    ) -> Result<bool, AllocError>
+        requires { start.proc < length procs.now }
+        ensures { Opens procs.now start esp0 (memory_in pages.now) result self.old self.new }
+    {
+        let proc = &procs[start.proc];
+        if self.goes_too_deep(esp0, start.height, proc.depth, proc.args) {
+            return Ok(false);
+        }
+        let frame = self.new_frame(alloc, procs, start, pages)?;
+        self.push(frame)?;
+        Ok(true)
     }
 }

@@ -1,9 +1,9 @@
-use Rattle.std.proofs.Common.{◌≡◌, ap, sym, ◌∙◌, get_or, take, position, List, Option, Some, ℕ}
+use Rattle.std.proofs.Common.{[], ◌≡◌, ap, sym, ◌∙◌, get_or, take, position, List, Option, Some, ℕ}
 use Rattle.unit_frames.specs.declared.frame.OpenFrame.{OpenFrame}
 use Rattle.unit_frames.specs.Kept.{is_in, frames_of}
 use Rattle.unit_frames.specs.Looking.{put_in}
 use Rattle.unit_frames.proofs.Looking.{is_covered, covered_there}
-use Rattle.unit_frames.proofs.Putting.{put_nowhere, put_there}
+use Rattle.unit_frames.proofs.Putting.{put_nowhere, put_there, taken_put}
 use Rattle.unit_frames.proofs.frames.OpenFrames.put.Goals as goal
 
 pub put-requires : goal.put-requires
@@ -23,3 +23,6 @@ returns-in-Some c = λ procs.
 
 pub returns-in_default : goal.returns-in_default
 returns-in_default c = λ procs. put_nowhere procs c.args.at c.args.byte c.args.count c.args.self.now (sym c.first_cover.ensures ∙ c.in_default.is)
+
+pub invariant_of-self : goal.invariant_of-self
+invariant_of-self c = taken_put c.self.inside.frames.items c.in-Some.place c.args.at c.args.byte c.index_mut.result.now c.put.new.self c.self.inside.taken c.index_mut.ensures.value (c.put.ensures []) c.self.invariant
