@@ -9,3 +9,4 @@ pub mod Outermost
 pub mod Fresh
 pub mod NewFrames
 pub mod Deep
+pub mod LocalWords

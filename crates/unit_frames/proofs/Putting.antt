@@ -74,8 +74,8 @@ taken_set [] k f g is same = refl
 taken_set (x ∷ xs) zero f g is same = sum_by-cons taken_by g xs ∙ ap (λ (n : ℕ). n + taken_of xs) (same ∙ ap taken_by is) ∙ sym (sum_by-cons taken_by x xs)
 taken_set (x ∷ xs) (suc k) f g is same = sum_by-cons taken_by x (set xs k g) ∙ ap (λ (n : ℕ). taken_by x + n) (taken_set xs k f g is same) ∙ sym (sum_by-cons taken_by x xs)
 
+pub taken_same : (fs : List OpenFrame) (k : ℕ) (f g : OpenFrame) (taken : ℕ) → f ≡ get_or fs k f → g.depth ≡ f.depth → g.args ≡ f.args → IsTaken taken fs → IsTaken taken (set fs k g)
+taken_same fs k f g taken is depth args h = (h.0 ∙ sym (taken_set fs k f g is (ap (λ (d : ℕ). takes d g.args) depth ∙ ap (takes f.depth) args)), h.1)
+
 pub taken_put : (fs : List OpenFrame) (k a : ℕ) (b : Byte) (f g : OpenFrame) (taken : ℕ) → f ≡ get_or fs k f → frame_of [] g ≡ with_image a b (frame_of [] f) → IsTaken taken fs → IsTaken taken (set fs k g)
-taken_put fs k a b f g taken is put h =
-    let depth : g.depth ≡ f.depth = ap (λ (x : Frame). x.proc.depth) put in
-    let args : g.args ≡ f.args = ap (λ (x : Frame). x.proc.args) put in
-    (h.0 ∙ sym (taken_set fs k f g is (ap (λ (d : ℕ). takes d g.args) depth ∙ ap (takes f.depth) args)), h.1)
+taken_put fs k a b f g taken is put h = taken_same fs k f g taken is (ap (λ (x : Frame). x.proc.depth) put) (ap (λ (x : Frame). x.proc.args) put) h

@@ -1,5 +1,5 @@
 -- What accesses of fixed places of the innermost frame come to. All of this is own.
-use Rattle.std.specs.Prelude.{ℕ, ◌<◌, length, Bool, true, false, List, [], ◌∷◌, Option, Some, None, Result, Ok, Err}
+use Rattle.std.specs.Prelude.{ℕ, Bool, true, false, List, [], ◌∷◌, Option, Some, None, Result, Ok, Err}
 use Rattle.x86_values.specs.declared.word.Word.{Word}
 use Rattle.traces.specs.Trace.{End, Outside}
 use Rattle.flag_ir.specs.Storage.{Frame, Storage}
@@ -8,11 +8,6 @@ use Rattle.unit_frames.specs.declared.frame.OpenFrame.{OpenFrame}
 abbrev pub innermost_height : List OpenFrame → Option ℕ
 innermost_height [] = None
 innermost_height (f ∷ more) = Some f.height
-
--- the innermost frame, where one is open, has a local of a number
-abbrev pub HasLocal : ℕ → List OpenFrame → Type 0
-HasLocal n [] = Unit {0}
-HasLocal n (f ∷ more) = n < length f.locals.items
 
 abbrev pub got : Option Word → Result Word End
 got None = Err Outside

@@ -1,8 +1,9 @@
 // One open frame.
 ghost use Rattle.std.specs.Prelude.{◌≡◌, ◌+◌, ◌*◌, ◌-◌, length};
 
-use crate::locals::{cut_local, no_word};
+use crate::locals::{cut_local, lengthen, no_word};
 use flag_ir::{FrameKind, Proc};
+use std::alloc::AllocError;
 use x86_values::{Byte, Word};
 
 /// An open frame of a procedure, which it names by its index among the unit's; it keeps that procedure's kind, depth and argument words. Its bytes
@@ -23,7 +24,7 @@ pub struct OpenFrame {
 }
 
 impl OpenFrame {
-    ghost use Rattle.std.specs.Prelude.{◌≡◌, ◌+◌, ◌*◌, ◌-◌, ◌^◌, ◌<◌, ◌≤◌, List, true, length};
+    ghost use Rattle.std.specs.Prelude.{◌≡◌, ◌+◌, ◌*◌, ◌-◌, ◌^◌, ◌<◌, ◌≤◌, List, true, length, OnOk};
     ghost use Rattle.flag_ir.specs.declared.procedure.Proc.{Proc};
     ghost use Rattle.flag_ir.specs.Frames as spec;
     ghost use Rattle.unit_frames.specs.Opened.{byte_if};
@@ -78,11 +79,21 @@ impl OpenFrame {
     }
 
     /// Makes a local a word, of which it holds as many bytes as its size says.
-    pub(crate) fn put_local(&mut self, procs: &[Proc], n: u32, word: Word)
-        requires { n < length self.old.locals.items }
-        ensures { frame_of procs.now self.new ≡ with_word n word (frame_of procs.now self.old) }
+    #[tactic(auto, using(crate::proofs::LocalWords::with_local_set))]
+    pub(crate) fn put_local(
+        &mut self,
+        procs: &[Proc],
+        n: u32,
+        word: Word,
+    ) -> Result<(), AllocError>
+        ensures local { OnOk result (frame_of procs.now self.new ≡ with_word n word (frame_of procs.now self.old)) }
+        ensures depth { self.new.depth ≡ self.old.depth }
+        ensures args { self.new.args ≡ self.old.args }
     {
-        self.locals[n as usize] = cut_local(procs, self.proc, n as usize, word);
+        let word = cut_local(procs, self.proc, n as usize, word);
+        lengthen(&mut self.locals, n as usize + 1)?;
+        self.locals[n as usize] = word;
+        Ok(())
     }
 
     /// The byte at an address, where it covers the address, also past 2^32.

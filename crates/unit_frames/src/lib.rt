@@ -8,6 +8,9 @@ mod locals;
 mod near;
 mod opening;
 
+#[cfg(test)]
+mod tests;
+
 pub use frame::OpenFrame;
 pub use frames::OpenFrames;
 pub use opening::FrameStart;

@@ -1,15 +1,15 @@
 // Locals of the innermost frame, and which accesses are judged.
-ghost use Rattle.std.specs.Prelude.{◌≡◌, ◌<◌, List, slice_get, slice_index_or};
+ghost use Rattle.std.specs.Prelude.{◌≡◌, ◌<◌, ◌≤◌, ℕ, List, length, slice_get, slice_index_or, OnOk};
 ghost use Rattle.flag_ir.specs.declared.procedure.Proc.{Proc};
 ghost use Rattle.flag_ir.specs.Frames.{outermost_top};
 ghost use Rattle.flag_ir.specs.Frames as spec;
 ghost use Rattle.flag_ir.specs.Storage.{Storage, cut_to, local_in, with_local};
 ghost use Rattle.unit_frames.specs.Kept.{no_proc, frames_of};
 ghost use Rattle.x86_values.specs.Sizes as sizes;
-ghost use Rattle.unit_frames.specs.Places.{HasLocal};
 
 use crate::frames::OpenFrames;
 use flag_ir::Proc;
+use std::alloc::AllocError;
 use x86_values::{Byte, Word, cut};
 
 // A word of which nothing is known.
@@ -22,6 +22,18 @@ pub(crate) fn no_word() -> Word
         b2: Byte::Unspecified,
         b3: Byte::Unspecified,
     }
+}
+
+// Adds unspecified words up to a length.
+#[tactic(auto, using(crate::proofs::LocalWords::none_pushed))]
+pub(crate) fn lengthen(words: &mut Vec<Word>, len: usize) -> Result<(), AllocError>
+    ensures words { OnOk result ((k : ℕ) → slice_index_or words.new.items k sizes.no_word ≡ slice_index_or words.old.items k sizes.no_word) }
+    ensures len { OnOk result (len ≤ length words.new.items) }
+{
+    for _ in words.len()..len {
+        words.push(no_word())?;
+    }
+    Ok(())
 }
 
 // The word that a local of a procedure becomes.
@@ -49,13 +61,13 @@ impl OpenFrames {
     }
 
     /// Makes a local of the innermost frame a word, of which it holds as many bytes as its size says.
-    pub fn put_local(&mut self, procs: &[Proc], n: u32, word: Word)
-        requires { HasLocal n self.old }
-        ensures { frames_of procs.now self.new ≡ with_local n word (frames_of procs.now self.old) }
+    pub fn put_local(&mut self, procs: &[Proc], n: u32, word: Word) -> Result<(), AllocError>
+        ensures { OnOk result (frames_of procs.now self.new ≡ with_local n word (frames_of procs.now self.old)) }
     {
-        if !self.frames.is_empty() {
-            self.frames[0].put_local(procs, n, word);
+        if self.frames.is_empty() {
+            return Ok(());
         }
+        self.frames[0].put_local(procs, n, word)
     }
 
     /// The end of the outermost frame, or 0.
