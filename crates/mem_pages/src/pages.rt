@@ -222,6 +222,20 @@ impl Pages {
         }
     }
 
+    /// Makes the byte of a place another, where it is mapped, also where it can't be written; else nothing changes.
+    pub fn replace(&mut self, at: u32, byte: Byte) -> Result<(), AllocError>
+        ensures replaced { OnOk result (memory_in self.new ≡ spec.put at byte (memory_in self.old)) }
+        ensures same { OnErr result (SameMemory self.old self.new) }
+        ensures keeps { KeepsPages self.old self.new }
+    {
+        if self.writable(at).is_none() {
+            return Ok(());
+        }
+        self.keep_page(at)?;
+        self.put(at, byte);
+        Ok(())
+    }
+
     /// Makes the bytes of the stack from `start` up to but not with `end` unspecified. It takes no memory.
     pub fn forget(&mut self, start: u32, end: u32)
         ensures forgets { memory_in self.new ≡ forget_between start end (memory_in self.old) }

@@ -31,6 +31,10 @@ fn a_region(rt: HostRuntime) -> Result<(), Fail> {
     assert_eq!(rt; pages.read(4095), Ok(Byte::Known(2)));
     let loaded = pages.load(4094, 4).ok_or("load")?;
     assert_eq!(rt; known(loaded), Some(0x0403_0201));
+    pages.replace(8001, Byte::Unspecified)?;
+    assert_eq!(rt; pages.read(8001), Ok(Byte::Unspecified));
+    pages.replace(9000, Byte::Known(3))?;
+    assert_eq!(rt; pages.read(9000), Err(PageFault::NotMapped));
     pages.keep(8000, 200)?;
     pages.fill(8190, &[5, 6, 8]).ok().ok_or("fill")?;
     let mut copied = [0; 3];

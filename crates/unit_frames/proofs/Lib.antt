@@ -10,3 +10,4 @@ pub mod Fresh
 pub mod NewFrames
 pub mod Deep
 pub mod LocalWords
+pub mod Returns

@@ -2,3 +2,4 @@ pub mod Kept
 pub mod Looking
 pub mod Places
 pub mod Opened
+pub mod Returned

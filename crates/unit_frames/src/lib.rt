@@ -7,6 +7,7 @@ mod frames;
 mod locals;
 mod near;
 mod opening;
+mod returning;
 
 #[cfg(test)]
 mod tests;
@@ -14,3 +15,4 @@ mod tests;
 pub use frame::OpenFrame;
 pub use frames::OpenFrames;
 pub use opening::FrameStart;
+pub use returning::ReturnCheck;

@@ -72,14 +72,14 @@ fn taken_by(depth: u32, args: u32) -> u64
 
 impl OpenFrames {
     // The innermost frame.
-    fn innermost(&self) -> Option<&OpenFrame>
+    pub(crate) fn innermost(&self) -> Option<&OpenFrame>
         ensures { option_copied result ≡ slice_get self.now 0 }
     {
         self.frames.front()
     }
 
     // The byte of the caller's frame at an address, else that of memory.
-    fn caller_byte(&self, pages: &Pages, at: u64) -> Byte
+    pub(crate) fn caller_byte(&self, pages: &Pages, at: u64) -> Byte
         ensures { result ≡ from_caller self.now (memory_in pages.now) at }
     {
         match self.innermost() {
