@@ -15,6 +15,7 @@ put_nowhere m at b o is none = λ i a. by a (eqb a at) refl i
   where
     here : m at ≡ None
     here = not_mapped (m at) (sym (ap is_some is) ∙ none)
+
     by : (a : ℕ) (t : Bool) → eqb a at ≡ t → m a ≡ cond t (with_byte b (m a)) (m a)
     by a false e = refl
     by a true e = let same : m a ≡ None = ap m (eqb-true a at e) ∙ here in same ∙ sym (ap (with_byte b) same)

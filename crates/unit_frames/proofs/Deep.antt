@@ -1,12 +1,12 @@
 -- A frame that opens, and one that would be too deep.
-use Rattle.std.proofs.Common.{◌≡◌, ℕ, ◌+◌, ◌*◌, ◌||◌, Bool, true, false, cond, ltb, List, [], ◌∷◌, get_or, Result, Ok, Err, refl, sym, ap, ◌∙◌, arith}
+use Rattle.std.proofs.Common.{◌≡◌, ℕ, ◌+◌, ◌*◌, ◌||◌, Bool, true, false, cond, ltb, List, [], ◌∷◌, Ok, Err, refl, sym, ap, ◌∙◌}
 use Rattle.std.proofs.lemmas.List.Sums.{sum_by-cons}
 use Rattle.memory.specs.Memory.{Memory}
 use Rattle.traces.specs.Trace.{Outside, Stopped}
 use Rattle.flag_ir.specs.declared.procedure.Proc.{Proc}
 use Rattle.flag_ir.specs.Storage.{Frame, Storage}
 use Rattle.flag_ir.specs.Frames.{frame_size}
-use Rattle.flag_ir.specs.Entering.{taken_up, is_too_deep, opened, before_block, index_at, with_new_frame}
+use Rattle.flag_ir.specs.Entering.{taken_up, is_too_deep, before_block, index_at, with_new_frame}
 use Rattle.unit_frames.specs.declared.frame.OpenFrame.{OpenFrame}
 use Rattle.unit_frames.specs.declared.opening.FrameStart.{FrameStart}
 use Rattle.unit_frames.specs.Kept.{frame_of, frames_of, takes, taken_of}
@@ -28,9 +28,11 @@ module _ (procs : List Proc) (s : FrameStart) (first : ℕ) (m : Memory) (fs : L
       ∙ ap (λ (n : ℕ). goes_too_deep u.esp0 s.height p.depth p.args n) taken ∙ ap (λ (e : ℕ). goes_too_deep e s.height p.depth p.args (taken_of fs)) o.esp0
 
   pub refuses_frame : (p : Proc) → p ≡ started procs s → true ≡ goes_too_deep first s.height p.depth p.args (taken_of fs) → Opens procs s first m (Ok false) fs fs
-  refuses_frame p is deep =
-      (λ u o. let t = same_test u o ∙ ap (λ (x : Proc). goes_too_deep first s.height x.depth x.args (taken_of fs)) (sym is) ∙ sym deep in
-      ap (λ (b : Bool). cond b (Err (Stopped (started procs s).entry)) (before_block (index_at (started procs s).entry (started procs s).blocks) Outside (with_new_frame (frame_started procs s u) u))) t, refl)
+  refuses_frame p is deep = (
+    λ u o. let t = same_test u o ∙ ap (λ (x : Proc). goes_too_deep first s.height x.depth x.args (taken_of fs)) (sym is) ∙ sym deep in
+        ap (λ (b : Bool). cond b (Err (Stopped (started procs s).entry)) (before_block (index_at (started procs s).entry (started procs s).blocks) Outside (with_new_frame (frame_started procs s u) u))) t,
+    refl,
+  )
 
   pub opens_frame : (p : Proc) (f : OpenFrame) → p ≡ started procs s → false ≡ goes_too_deep first s.height p.depth p.args (taken_of fs) → IsNewFrame procs s fs m f → Opens procs s first m (Ok true) fs (f ∷ fs)
   opens_frame p f is deep new u o =

@@ -1,18 +1,18 @@
 -- Fixed places of the innermost frame.
-use Rattle.std.proofs.Common.{◌≡◌, ℕ, ◌<◌, ◌^◌, ℤ, pos, negsuc, Bool, true, false, cond, List, [], ◌∷◌, length, take, Option, Some, None, Result, Ok, Err, refl, sym, ap, ◌∙◌, arith}
+use Rattle.std.proofs.Common.{◌≡◌, ℕ, ◌<◌, ◌^◌, ℤ, pos, negsuc, Bool, true, false, cond, List, [], ◌∷◌, length, take, Some, None, Result, Ok, Err, refl, sym, ap, ◌∙◌, arith}
 use Rattle.x86_values.specs.declared.byte.Byte.{Byte}
 use Rattle.x86_values.specs.declared.word.Word.{Word}
 use Rattle.x86_values.specs.Words.{word_list, padded}
 use Rattle.x86_values.specs.Sizes.{IsSize}
 use Rattle.traces.specs.Trace.{End, Outside}
-use Rattle.memory.specs.Memory.{Memory, wrapped}
+use Rattle.memory.specs.Memory.{Memory}
 use Rattle.flag_ir.specs.declared.procedure.Proc.{Proc}
 use Rattle.flag_ir.specs.Storage.{Frame, Storage}
 use Rattle.flag_ir.specs.Frames.{all_covered, bytes_in}
 use Rattle.flag_ir.specs.Operations.{at_offset, get_of, put_of, with_bytes}
 use Rattle.unit_frames.specs.declared.frame.OpenFrame.{OpenFrame}
 use Rattle.unit_frames.specs.Kept.{frame_of, frames_of}
-use Rattle.unit_frames.specs.Looking.{word_kept, loaded_in, put_all_in}
+use Rattle.unit_frames.specs.Looking.{word_kept, put_all_in}
 use Rattle.unit_frames.specs.Places.{innermost_height, got, put_comes}
 use Rattle.unit_frames.proofs.Covering.{word_loaded}
 use Rattle.unit_frames.proofs.Accesses.{word_size}

@@ -1,5 +1,5 @@
 -- A new frame, as it is kept, is that of the definitions.
-use Rattle.std.proofs.Common.{◌≡◌, ℕ, zero, suc, ◌+◌, ◌-◌, ◌*◌, ◌<◌, ◌≤◌, ◌&&◌, Bool, true, false, cond, leb, ltb, List, [], ◌∷◌, length, map, get_or, Option, Some, None, refl, sym, ap, ◌∙◌, arith}
+use Rattle.std.proofs.Common.{◌≡◌, ℕ, zero, suc, ◌+◌, ◌-◌, ◌*◌, ◌<◌, ◌≤◌, ◌&&◌, Bool, true, false, cond, leb, ltb, List, [], ◌∷◌, length, map, get_or, Some, None, refl, sym, ap, ◌∙◌, arith}
 use Rattle.std.specs.List.{slice_get}
 use Rattle.std.proofs.lemmas.Bool.Decides.{nat_tests}
 use Rattle.std.proofs.lemmas.List.{get_or_default}
@@ -12,10 +12,10 @@ use Rattle.flag_ir.specs.declared.procedure.LocalSlot.{LocalSlot}
 use Rattle.flag_ir.specs.declared.procedure.Proc.{Proc}
 use Rattle.flag_ir.specs.Storage.{Frame, Storage}
 use Rattle.flag_ir.specs.Frames.{caller_byte}
-use Rattle.flag_ir.specs.Entering.{no_local, bare_frame, image_from_caller, word_in, new_frame}
+use Rattle.flag_ir.specs.Entering.{no_local, bare_frame, image_from_caller, word_in}
 use Rattle.unit_frames.specs.declared.frame.OpenFrame.{OpenFrame}
 use Rattle.unit_frames.specs.declared.opening.FrameStart.{FrameStart}
-use Rattle.unit_frames.specs.Kept.{is_in, image_of, no_proc, byte_from, frame_of, frames_of}
+use Rattle.unit_frames.specs.Kept.{is_in, image_of, no_proc, byte_from, frames_of}
 use Rattle.unit_frames.specs.Opened.{or_memory, from_caller, fresh_byte, IsOpener, started, frame_started}
 
 -- ---- the caller's bytes
@@ -66,8 +66,8 @@ module _ (procs : List Proc) (fs : List OpenFrame) (m : Memory) (s : FrameStart)
       let bare : Frame = bare_frame q s.height s.back u in
       let byte : (a : ℕ) → from_caller fs m a ≡ caller_byte u.frames u.memory a = λ a. caller_kept procs m a fs ∙ ap (λ (x : List Frame). caller_byte x m a) (sym o.frames) ∙ ap (λ (x : Memory). caller_byte u.frames x a) (sym o.memory) in
       let image_at : (a : ℕ) → byte_from low bytes a ≡ image_from_caller bare u a = λ a.
-          image a ∙ ap (λ (x : Proc). fresh_byte s.height (s.height + 4 + 4 * x.args) (from_caller fs m) a) e
-          ∙ ap (λ (b : Byte). cond (leb s.height a && ltb a (s.height + 4 + 4 * q.args)) b Unspecified) (byte a) in
+      image a ∙ ap (λ (x : Proc). fresh_byte s.height (s.height + 4 + 4 * x.args) (from_caller fs m) a) e
+      ∙ ap (λ (b : Byte). cond (leb s.height a && ltb a (s.height + 4 + 4 * q.args)) b Unspecified) (byte a) in
       let images : byte_from low bytes ≡ image_from_caller bare u = λ i a. image_at a i in
       let local_at : (n : ℕ) → get_or locals n no_word ≡ no_local (slice_get q.locals n) = λ n. ap (λ (x : List Word). get_or x n no_word) slots ∙ local_fresh p.locals n ∙ ap (λ (x : Proc). no_local (slice_get x.locals n)) e in
       let kept : ℕ → Word = λ n. get_or locals n no_word in

@@ -1,5 +1,5 @@
 -- The outermost frame is the last.
-use Rattle.std.proofs.Common.{◌≡◌, ℕ, ◌+◌, List, [], ◌∷◌, length, get_or, refl, sym, ap, ◌∙◌, arith}
+use Rattle.std.proofs.Common.{◌≡◌, ℕ, ◌+◌, List, [], ◌∷◌, length, get_or, refl, ap, ◌∙◌, arith}
 use Rattle.flag_ir.specs.declared.procedure.Proc.{Proc}
 use Rattle.flag_ir.specs.Frames.{outermost_top}
 use Rattle.unit_frames.specs.declared.frame.OpenFrame.{OpenFrame}

@@ -1,5 +1,5 @@
 -- A byte that is put into the first of so many frames that covers it.
-use Rattle.std.proofs.Common.{◌≡◌, ℕ, zero, suc, ◌+◌, ◌<◌, ◌≤◌, not, Bool, true, false, cond, List, [], ◌∷◌, ◌++◌, length, get_or, set, take, position, Option, Some, None, refl, sym, ap, ◌∙◌, arith}
+use Rattle.std.proofs.Common.{◌≡◌, ℕ, zero, suc, ◌+◌, ◌<◌, ◌≤◌, not, Bool, true, false, cond, List, [], ◌∷◌, ◌++◌, length, get_or, set, take, position, Some, None, refl, sym, ap, ◌∙◌, arith}
 use Rattle.std.specs.List.{find, position_or_len}
 use Rattle.std.proofs.lemmas.List.{map-set, length-take-le, take_more, take_all}
 use Rattle.std.proofs.lemmas.List.Sums.{sum_by-cons}
@@ -11,7 +11,7 @@ use Rattle.flag_ir.specs.Frames.{with_image}
 use Rattle.unit_frames.specs.declared.frame.OpenFrame.{OpenFrame}
 use Rattle.unit_frames.specs.Kept.{is_in, frame_of, frames_of, takes, taken_of, IsTaken}
 use Rattle.unit_frames.specs.Looking.{put_in, put_all_in}
-use Rattle.unit_frames.proofs.Looking.{none_found, is_covered, IsCovered}
+use Rattle.unit_frames.proofs.Looking.{none_found, is_covered}
 
 module _ (procs : List Proc) (a : ℕ) (b : Byte) where
   put_none : (count : ℕ) (fs : List OpenFrame) → find (is_in a) (take count fs) ≡ None → put_in count a b (frames_of procs fs) ≡ frames_of procs fs

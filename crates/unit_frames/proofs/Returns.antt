@@ -1,16 +1,15 @@
 -- How a return finds the return word and ebp.
-use Rattle.std.proofs.Common.{◌≡◌, ℕ, ◌+◌, ◌<◌, ◌^◌, Bool, true, false, cond, List, [], ◌∷◌, Option, Some, None, Result, refl, sym, ap, ◌∙◌, subst, arith}
-use Rattle.std.specs.List.{find, slice_get}
-use Rattle.x86_values.specs.declared.byte.Byte.{Byte}
+use Rattle.std.proofs.Common.{◌≡◌, ℕ, ◌+◌, Bool, true, false, cond, List, [], ◌∷◌, Some, None, Result, refl, sym, ap, ◌∙◌, subst, arith}
+use Rattle.std.specs.List.{slice_get}
 use Rattle.x86_values.specs.declared.word.Word.{Word}
 use Rattle.x86_values.specs.Words.{known}
 use Rattle.traces.specs.Trace.{End}
-use Rattle.memory.specs.Memory.{Memory, wrapped, byte_of}
+use Rattle.memory.specs.Memory.{Memory, wrapped}
 use Rattle.flag_ir.specs.declared.procedure.FrameKind.{FrameKind}
 use Rattle.flag_ir.specs.declared.procedure.FrameKind.TheVariants.{Sealed, Guarded, Shared}
 use Rattle.flag_ir.specs.declared.procedure.Proc.{Proc}
 use Rattle.flag_ir.specs.Storage.{Frame, Storage}
-use Rattle.flag_ir.specs.Frames.{covers, byte_in, byte_by, bytes_in}
+use Rattle.flag_ir.specs.Frames.{byte_in, byte_by, bytes_in}
 use Rattle.flag_ir.specs.Entering.{Onward, are_equal, checked, unless_changed, word_of_frame}
 use Rattle.unit_frames.specs.declared.frame.OpenFrame.{OpenFrame}
 use Rattle.unit_frames.specs.declared.returning.ReturnCheck.{ReturnCheck}

@@ -1,5 +1,5 @@
 -- Bytes that are put where they are covered: by addresses of the running procedure, and by fixed places.
-use Rattle.std.proofs.Common.{◌≡◌, ℕ, zero, suc, ◌+◌, ◌<◌, ◌&&◌, Bool, true, false, cond, List, [], ◌∷◌, length, take, Option, Some, None, refl, sym, ap, ◌∙◌, arith}
+use Rattle.std.proofs.Common.{◌≡◌, ℕ, zero, suc, ◌+◌, Bool, true, false, cond, List, [], ◌∷◌, length, take, Option, Some, None, refl, sym, ap, ◌∙◌}
 use Rattle.std.specs.List.{find}
 use Rattle.std.specs.Option.{is_some}
 use Rattle.std.proofs.lemmas.Bool.{and_parts}
@@ -24,9 +24,11 @@ same_found c a b (suc n) (f ∷ more) = by (covers a f) (same_found c a b n more
     either : (t : Bool) (g : Frame) (o : Option Frame) → is_some (cond t (Some g) o) ≡ is_some (cond t (Some f) o)
     either true g o = refl
     either false g o = refl
+
     both : (t : Bool) (o p : Option Frame) → is_some o ≡ is_some p → is_some (cond t (Some f) o) ≡ is_some (cond t (Some f) p)
     both true o p h = refl
     both false o p h = h
+
     by : (t : Bool) → is_some (find (covers c) (take n (put_in n a b more))) ≡ is_some (find (covers c) (take n more)) → is_some (find (covers c) (take (suc n) (cond t (with_image a b f ∷ more) (f ∷ put_in n a b more)))) ≡ is_some (cond (covers c f) (Some f) (find (covers c) (take n more)))
     by true h = either (covers c f) (with_image a b f) (find (covers c) (take n more))
     by false h = both (covers c f) (find (covers c) (take n (put_in n a b more))) (find (covers c) (take n more)) h

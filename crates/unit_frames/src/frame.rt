@@ -80,12 +80,7 @@ impl OpenFrame {
 
     /// Makes a local a word, of which it holds as many bytes as its size says.
     #[tactic(auto, using(crate::proofs::LocalWords::with_local_set))]
-    pub(crate) fn put_local(
-        &mut self,
-        procs: &[Proc],
-        n: u32,
-        word: Word,
-    ) -> Result<(), AllocError>
+    pub(crate) fn put_local(&mut self, procs: &[Proc], n: u32, word: Word) -> Result<(), AllocError>
         ensures local { OnOk result (frame_of procs.now self.new ≡ with_word n word (frame_of procs.now self.old)) }
         ensures depth { self.new.depth ≡ self.old.depth }
         ensures args { self.new.args ≡ self.old.args }

@@ -8,7 +8,6 @@ mod locals;
 mod near;
 mod opening;
 mod returning;
-
 #[cfg(test)]
 mod tests;
 

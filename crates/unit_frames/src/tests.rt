@@ -58,10 +58,7 @@ fn opened(
 
 #[test]
 fn opens_a_guarded_frame(rt: HostRuntime) -> Result<(), Fail> {
-    let procs = Vec::from_array(
-        rt.alloc(),
-        [worked_proc(rt.alloc(), FrameKind::Guarded)?],
-    )?;
+    let procs = Vec::from_array(rt.alloc(), [worked_proc(rt.alloc(), FrameKind::Guarded)?])?;
     let pages = stack(rt.alloc())?;
     let (mut frames, is_open) = opened(rt.alloc(), procs.as_slice(), ESP0, &pages)?;
     assert!(rt; is_open);
@@ -87,10 +84,7 @@ fn opens_a_guarded_frame(rt: HostRuntime) -> Result<(), Fail> {
 
 #[test]
 fn opens_others(rt: HostRuntime) -> Result<(), Fail> {
-    let procs = Vec::from_array(
-        rt.alloc(),
-        [worked_proc(rt.alloc(), FrameKind::Sealed)?],
-    )?;
+    let procs = Vec::from_array(rt.alloc(), [worked_proc(rt.alloc(), FrameKind::Sealed)?])?;
     let pages = stack(rt.alloc())?;
     let (frames, is_open) = opened(rt.alloc(), procs.as_slice(), ESP0, &pages)?;
     assert!(rt; is_open);

@@ -1,5 +1,4 @@
 use Rattle.std.proofs.Common.{◌≡◌, ap, sym, ◌∙◌, get_or}
-use Rattle.std.proofs.lemmas.Grind.{common_steps}
 use Rattle.unit_frames.specs.Kept.{is_in}
 use Rattle.unit_frames.proofs.Looking.{is_covered, covered_there}
 use Rattle.unit_frames.proofs.frames.OpenFrames.byte.Goals as goal

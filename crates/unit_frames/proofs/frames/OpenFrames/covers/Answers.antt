@@ -1,4 +1,4 @@
-use Rattle.std.proofs.Common.{ap, ◌∙◌, ◌≡◌}
+use Rattle.std.proofs.Common.{ap, ◌∙◌}
 use Rattle.std.specs.Option.{is_some}
 use Rattle.unit_frames.proofs.Accesses.{covered_kept}
 use Rattle.unit_frames.proofs.frames.OpenFrames.covers.Goals as goal

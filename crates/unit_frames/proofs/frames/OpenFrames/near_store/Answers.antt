@@ -16,5 +16,5 @@ returns-clause-stored c = λ procs.
     let count : c.reached-count.result ≡ reached_count fs = c.reached-count.ensures.count in
     let len : length bs ≡ c.args.size = word_size c.args.size c.args.word c.requires in
     let covered : all_covered (take (reached_count fs) gs) c.args.at (length bs) ≡ true =
-        ap (λ (n : ℕ). all_covered (take (reached_count fs) gs) c.args.at n) len ∙ ap (λ (n : ℕ). all_covered (take n gs) c.args.at c.args.size) (sym count) ∙ sym (c.covers_all.ensures procs) ∙ c.if-not-covers_all.false in
+    ap (λ (n : ℕ). all_covered (take (reached_count fs) gs) c.args.at n) len ∙ ap (λ (n : ℕ). all_covered (take n gs) c.args.at c.args.size) (sym count) ∙ sym (c.covers_all.ensures procs) ∙ c.if-not-covers_all.false in
     near_stored procs c.args.at bs fs c.put_each.new.self covered (c.put_each.ensures procs ∙ ap (λ (n : ℕ). put_all_in n c.args.at bs gs) count)

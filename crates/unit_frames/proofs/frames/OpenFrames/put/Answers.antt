@@ -1,4 +1,4 @@
-use Rattle.std.proofs.Common.{[], ◌≡◌, ap, sym, ◌∙◌, get_or, take, position, List, Option, Some, ℕ}
+use Rattle.std.proofs.Common.{[], ◌≡◌, ap, sym, ◌∙◌, get_or, take, position, List, Some}
 use Rattle.unit_frames.specs.declared.frame.OpenFrame.{OpenFrame}
 use Rattle.unit_frames.specs.Kept.{is_in, frames_of}
 use Rattle.unit_frames.specs.Looking.{put_in}

@@ -1,4 +1,4 @@
-use Rattle.std.proofs.Common.{w32, ◌≡◌, ap, sym, ◌∙◌, ℕ, List, take, true, false}
+use Rattle.std.proofs.Common.{w32, ◌≡◌, ap, sym, ◌∙◌, ℕ, List, take}
 use Rattle.x86_values.specs.declared.byte.Byte.{Byte}
 use Rattle.x86_values.specs.Words.{word_list}
 use Rattle.flag_ir.specs.Storage.{Frame}
@@ -7,7 +7,7 @@ use Rattle.std.proofs.lemmas.Int.{to_z-of_z}
 use Rattle.flag_ir.specs.Operations.{at_offset}
 use Rattle.unit_frames.specs.Kept.{frames_of}
 use Rattle.unit_frames.specs.Looking.{put_all_in}
-use Rattle.unit_frames.proofs.FixedPlaces.{put_outside, put_uncovered, put_covered}
+use Rattle.unit_frames.proofs.FixedPlaces.{put_covered}
 use Rattle.unit_frames.proofs.frames.OpenFrames.put_place.Goals as goal
 
 pub returns-clause-puts : goal.returns-clause-puts
