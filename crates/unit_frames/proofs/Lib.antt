@@ -11,3 +11,5 @@ pub mod NewFrames
 pub mod Deep
 pub mod LocalWords
 pub mod Returns
+pub mod Forgetting
+pub mod CopyingBack

@@ -3,3 +3,4 @@ pub mod Looking
 pub mod Places
 pub mod Opened
 pub mod Returned
+pub mod Closed

@@ -1,5 +1,6 @@
 // One open frame.
-ghost use Rattle.std.specs.Prelude.{◌≡◌, ◌+◌, ◌*◌, ◌-◌, length};
+ghost use Rattle.std.specs.Prelude.{◌≡◌, ◌+◌, ◌*◌, ◌-◌, length, ◌≤◌, ℕ, ◌&&◌, cond, leb, ltb, slice_index_or, ◌^◌, ◌<◌, List, true, OnOk};
+ghost use Rattle.x86_values.specs.declared.byte.Byte.TheVariants.{Unspecified};
 
 use crate::locals::{cut_local, lengthen, no_word};
 use flag_ir::{FrameKind, Proc};
@@ -23,15 +24,26 @@ pub struct OpenFrame {
     ghost whole: { length bytes.items ≡ height + 4 + 4 * args - (height - depth) },
 }
 
+// Makes the bytes from one up to but not with another unspecified.
+fn forget_bytes(bytes: &mut Vec<Byte>, first: usize, last: usize)
+    requires { last ≤ length bytes.old.items }
+    ensures bytes { (k : ℕ) → slice_index_or bytes.new.items k Unspecified ≡ cond (leb first k && ltb k last) Unspecified (slice_index_or bytes.old.items k Unspecified) }
+    ensures len { length bytes.new.items ≡ length bytes.old.items }
+{
+    for k in first..last {
+        bytes[k] = Byte::Unspecified;
+    }
+}
+
 impl OpenFrame {
-    ghost use Rattle.std.specs.Prelude.{◌≡◌, ◌+◌, ◌*◌, ◌-◌, ◌^◌, ◌<◌, ◌≤◌, List, true, length, OnOk};
     ghost use Rattle.flag_ir.specs.declared.procedure.Proc.{Proc};
     ghost use Rattle.flag_ir.specs.Frames as spec;
     ghost use Rattle.unit_frames.specs.Opened.{byte_if};
+    ghost use Rattle.unit_frames.specs.Closed.{forgotten_between};
     ghost use Rattle.unit_frames.specs.Kept.{low_of, end_of, is_in, frame_of, image_of, local_of, with_word};
 
-    // Its lowest address.
-    fn low(&self) -> u32
+    /// Its lowest address.
+    pub(crate) fn low(&self) -> u32
         ensures { result ≡ low_of self.now }
     {
         self.height.saturating_sub(self.depth)
@@ -104,5 +116,31 @@ impl OpenFrame {
             None => None,
             Some(byte) => Some(*byte),
         }
+    }
+
+    /// The byte at an address; beside its bytes it is unspecified.
+    pub(crate) fn image(&self, at: u32) -> Byte
+        ensures { result ≡ image_of self.now at }
+    {
+        let low = self.low();
+        if at < low {
+            return Byte::Unspecified;
+        }
+        match self.bytes.as_slice().get((at - low) as usize) {
+            None => Byte::Unspecified,
+            Some(byte) => *byte,
+        }
+    }
+
+    /// Makes its bytes from an address up to another unspecified.
+    pub(crate) fn forget(&mut self, from: u32, to: u64)
+        ensures image { (procs : List Proc) → frame_of procs self.new ≡ forgotten_between from to (frame_of procs self.old) }
+        ensures depth { self.new.depth ≡ self.old.depth }
+        ensures args { self.new.args ≡ self.old.args }
+    {
+        let low = self.low();
+        let first = from.saturating_sub(low) as usize;
+        let last = to.saturating_sub(low as u64).min(self.bytes.len() as u64) as usize;
+        forget_bytes(&mut self.bytes, first, last);
     }
 }

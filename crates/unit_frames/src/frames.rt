@@ -92,10 +92,11 @@ impl OpenFrames {
         self.frames.iter().position(|f| !is_shared(f.kind))
     }
 
-    // How many of the innermost frames are Shared.
+    /// How many of the innermost frames are Shared.
     #[tactic(auto, using(crate::proofs::Looking::first_of_none, crate::proofs::Looking::first_of_some))]
-    fn shared(&self) -> usize
-        ensures { result ≡ shared_count self.now }
+    pub(crate) fn shared(&self) -> usize
+        ensures count { result ≡ shared_count self.now }
+        ensures within { result ≤ length self.now }
     {
         match self.first_apart() {
             None => self.frames.len(),

@@ -63,8 +63,8 @@ fn word_at(bytes: &[Byte], place: usize) -> Word
     }
 }
 
-// What a frame takes up.
-fn taken_by(depth: u32, args: u32) -> u64
+/// What a frame takes up.
+pub(crate) fn taken_by(depth: u32, args: u32) -> u64
     ensures { result ≡ takes depth args }
 {
     2 * (depth as u64 + 4 + 4 * args as u64) + 256
