@@ -1,16 +1,19 @@
 -- Bytes that a closed frame gives back.
-use Rattle.std.proofs.Common.{◌≡◌, ℕ, zero, suc, ◌+◌, ◌<◌, Bool, true, false, cond, List, [], ◌∷◌, length, take, Option, Some, None, refl, sym, ap, ◌∙◌, arith}
+use Rattle.std.proofs.Common.{◌≡◌, ℕ, zero, suc, ◌+◌, ◌<◌, Bool, true, false, cond, List, [], ◌∷◌, ◌++◌, ◌*◌, length, take, Option, Some, None, refl, sym, ap, ◌∙◌, subst, arith}
 use Rattle.std.specs.List.{find}
 use Rattle.std.specs.Option.{is_some}
 use Rattle.x86_values.specs.declared.byte.Byte.{Byte}
 use Rattle.memory.specs.Memory.{Memory, wrapped, put}
 use Rattle.flag_ir.specs.declared.procedure.Proc.{Proc}
-use Rattle.flag_ir.specs.Storage.{Frame, Storage}
-use Rattle.flag_ir.specs.Frames.{covers, with_image, with_caller_byte, copied_back}
+use Rattle.x86_values.specs.declared.word.Word.{Word}
+use Rattle.x86_values.specs.Words.{word_of}
+use Rattle.flag_ir.specs.Calculations.{sum_of}
+use Rattle.flag_ir.specs.Storage.{Frame, Storage, put_word}
+use Rattle.flag_ir.specs.Frames.{covers, with_image, with_caller_byte, copied_back, forget_by}
 use Rattle.unit_frames.specs.declared.frame.OpenFrame.{OpenFrame}
 use Rattle.unit_frames.specs.Kept.{is_in, frame_of, frames_of}
 use Rattle.unit_frames.specs.Looking.{put_in}
-use Rattle.unit_frames.specs.Closed.{with_kept}
+use Rattle.unit_frames.specs.Closed.{with_kept, Closes}
 
 covers_first : (t : Bool) (f : Frame) → is_some (cond t (Some f) None) ≡ t
 covers_first true f = refl
@@ -54,3 +57,28 @@ more_back f at k there b u v w place is done put =
 
 pub all_back : (f : Frame) (at k n : ℕ) (u v : Storage) → k ≡ n → copied_back f at k u ≡ v → copied_back f at n u ≡ v
 all_back f at k n u v e done = ap (λ (x : ℕ). copied_back f at x u) (sym e) ∙ done
+
+-- ---- a frame is closed
+pub none_left : (fs : List OpenFrame) → length fs ≡ 0 → fs ≡ []
+none_left [] h = refl
+none_left (f ∷ more) h = absurd (omega arith)
+
+pub closes_none : (fs gs : List OpenFrame) (m : Memory) → fs ≡ [] → fs ≡ [] ++ gs → Closes None fs m gs m
+closes_none [] gs m none h = (refl, sym h, refl)
+closes_none (f ∷ more) gs m none h = absurd (cc none)
+
+closes_first : (f : OpenFrame) (more gs hs : List OpenFrame) (m n : Memory)
+    → ((procs : List Proc) → frames_of procs gs ≡ forget_by f.kind (frame_of procs f) (frames_of procs more))
+    → ((procs : List Proc) (u : Storage) → copied_back (frame_of procs f) (f.height + 4) (4 * f.args) (with_kept procs gs m u) ≡ with_kept procs hs n u)
+    → Closes (Some (record { back = f.back; word = f.word })) (f ∷ more) m hs n
+closes_first f more gs hs m n forgot back = (refl, λ procs u memory.
+    let regs : ℕ → Word = put_word 4 (sum_of (u.regs 4) (word_of 4)) u.regs in
+    ap (copied_back (frame_of procs f) (f.height + 4) (4 * f.args))
+    (ap (λ (x : List Frame). record u { frames = x; regs = regs }) (sym (forgot procs)) ∙ ap (λ (k : Memory). record u { frames = frames_of procs gs; regs = regs; memory = k }) memory)
+    ∙ back procs (record u { regs = regs }))
+
+pub closes_one : (f : OpenFrame) (fs more gs hs : List OpenFrame) (m n : Memory) → fs ≡ (f ∷ []) ++ more
+    → ((procs : List Proc) → frames_of procs gs ≡ forget_by f.kind (frame_of procs f) (frames_of procs more))
+    → ((procs : List Proc) (u : Storage) → copied_back (frame_of procs f) (f.height + 4) (4 * f.args) (with_kept procs gs m u) ≡ with_kept procs hs n u)
+    → Closes (Some (record { back = f.back; word = f.word })) fs m hs n
+closes_one f fs more gs hs m n h forgot back = subst (λ (x : List OpenFrame). Closes (Some (record { back = f.back; word = f.word })) x m hs n) (sym h) (closes_first f more gs hs m n forgot back)

@@ -12,6 +12,7 @@ mod returning;
 #[cfg(test)]
 mod tests;
 
+pub use closing::ReturnPlace;
 pub use frame::OpenFrame;
 pub use frames::OpenFrames;
 pub use opening::FrameStart;
