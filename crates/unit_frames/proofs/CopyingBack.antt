@@ -1,5 +1,5 @@
 -- Bytes that a closed frame gives back.
-use Rattle.std.proofs.Common.{◌≡◌, ℕ, zero, suc, ◌+◌, ◌<◌, Bool, true, false, cond, List, [], ◌∷◌, ◌++◌, ◌*◌, length, take, Option, Some, None, refl, sym, ap, ◌∙◌, subst, arith}
+use Rattle.std.proofs.Common.{◌≡◌, ℕ, zero, suc, ◌+◌, Bool, true, false, cond, List, [], ◌∷◌, ◌++◌, ◌*◌, length, take, Some, None, refl, sym, ap, ◌∙◌, subst, arith}
 use Rattle.std.specs.List.{find}
 use Rattle.std.specs.Option.{is_some}
 use Rattle.x86_values.specs.declared.byte.Byte.{Byte}
@@ -71,11 +71,14 @@ closes_first : (f : OpenFrame) (more gs hs : List OpenFrame) (m n : Memory)
     → ((procs : List Proc) → frames_of procs gs ≡ forget_by f.kind (frame_of procs f) (frames_of procs more))
     → ((procs : List Proc) (u : Storage) → copied_back (frame_of procs f) (f.height + 4) (4 * f.args) (with_kept procs gs m u) ≡ with_kept procs hs n u)
     → Closes (Some (record { back = f.back; word = f.word })) (f ∷ more) m hs n
-closes_first f more gs hs m n forgot back = (refl, λ procs u memory.
-    let regs : ℕ → Word = put_word 4 (sum_of (u.regs 4) (word_of 4)) u.regs in
-    ap (copied_back (frame_of procs f) (f.height + 4) (4 * f.args))
-    (ap (λ (x : List Frame). record u { frames = x; regs = regs }) (sym (forgot procs)) ∙ ap (λ (k : Memory). record u { frames = frames_of procs gs; regs = regs; memory = k }) memory)
-    ∙ back procs (record u { regs = regs }))
+closes_first f more gs hs m n forgot back = (
+  refl,
+  λ procs u memory.
+      let regs : ℕ → Word = put_word 4 (sum_of (u.regs 4) (word_of 4)) u.regs in
+      ap (copied_back (frame_of procs f) (f.height + 4) (4 * f.args))
+      (ap (λ (x : List Frame). record u { frames = x; regs = regs }) (sym (forgot procs)) ∙ ap (λ (k : Memory). record u { frames = frames_of procs gs; regs = regs; memory = k }) memory)
+      ∙ back procs (record u { regs = regs }),
+)
 
 pub closes_one : (f : OpenFrame) (fs more gs hs : List OpenFrame) (m n : Memory) → fs ≡ (f ∷ []) ++ more
     → ((procs : List Proc) → frames_of procs gs ≡ forget_by f.kind (frame_of procs f) (frames_of procs more))

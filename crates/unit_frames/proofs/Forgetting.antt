@@ -1,6 +1,6 @@
 -- What the closing of a frame makes unspecified.
-use Rattle.std.proofs.Common.{◌≡◌, ℕ, zero, suc, ◌+◌, ◌-◌, ◌*◌, ◌<◌, ◌≤◌, min, max, ◌&&◌, not, Bool, true, false, cond, leb, ltb, List, [], ◌∷◌, ◌++◌, length, get_or, set, inl, inr, refl, sym, ap, ◌∙◌, arith}
-use Rattle.std.proofs.lemmas.Bool.{cases_lt, cases_Bool}
+use Rattle.std.proofs.Common.{◌≡◌, ℕ, zero, suc, ◌+◌, ◌-◌, ◌*◌, ◌<◌, ◌≤◌, min, max, ◌&&◌, not, Bool, true, false, cond, leb, ltb, List, [], ◌∷◌, length, get_or, set, inl, inr, refl, sym, ap, ◌∙◌, arith}
+use Rattle.std.proofs.lemmas.Bool.{cases_lt}
 use Rattle.std.proofs.lemmas.Bool.Decides.{nat_tests}
 use Rattle.std.proofs.lemmas.List.{map-set, get_or_past}
 use Rattle.std.proofs.lemmas.List.Sums.{sum_by-cons}
@@ -10,7 +10,7 @@ use Rattle.flag_ir.specs.declared.procedure.FrameKind.{FrameKind}
 use Rattle.flag_ir.specs.declared.procedure.FrameKind.TheVariants.{Sealed, Guarded, Shared}
 use Rattle.flag_ir.specs.declared.procedure.Proc.{Proc}
 use Rattle.flag_ir.specs.Storage.{Frame}
-use Rattle.flag_ir.specs.Frames.{covers, is_argument, is_shared, forgotten_in, forget_chain, forget_by}
+use Rattle.flag_ir.specs.Frames.{is_shared, forgotten_in, forget_chain, forget_by}
 use Rattle.unit_frames.specs.declared.frame.OpenFrame.{OpenFrame}
 use Rattle.unit_frames.specs.Kept.{low_of, byte_from, frame_of, frames_of, takes, taken_of, IsTaken}
 use Rattle.unit_frames.specs.Looking.{shared_count}
@@ -31,21 +31,21 @@ module _ (low from to : ℕ) (bs cs : List Byte) (h : (k : ℕ) → get_or cs k 
   there : (a : ℕ) → low ≤ a → get_or cs (a - low) Unspecified ≡ cond (leb from a && ltb a to) Unspecified (get_or bs (a - low) Unspecified)
   there a order = elim (cases_lt (a - low) (length bs)) [
     | inl less ↦
-      let t : (leb (from - low) (a - low) && ltb (a - low) (min (to - low) (length bs))) ≡ (leb from a && ltb a to) = grind (arith, nat_tests) in
-      h (a - low) ∙ ap (λ (x : Bool). cond x Unspecified (get_or bs (a - low) Unspecified)) t
+        let t : (leb (from - low) (a - low) && ltb (a - low) (min (to - low) (length bs))) ≡ (leb from a && ltb a to) = grind (arith, nat_tests) in
+        h (a - low) ∙ ap (λ (x : Bool). cond x Unspecified (get_or bs (a - low) Unspecified)) t
     | inr past ↦
-      let none : get_or bs (a - low) Unspecified ≡ Unspecified = get_or_past bs (a - low) Unspecified past in
-      h (a - low) ∙ ap (λ (x : Byte). cond (leb (from - low) (a - low) && ltb (a - low) (min (to - low) (length bs))) Unspecified x) none ∙ both_unspecified (leb (from - low) (a - low) && ltb (a - low) (min (to - low) (length bs)))
-      ∙ sym (ap (λ (x : Byte). cond (leb from a && ltb a to) Unspecified x) none ∙ both_unspecified (leb from a && ltb a to))
+        let none : get_or bs (a - low) Unspecified ≡ Unspecified = get_or_past bs (a - low) Unspecified past in
+        h (a - low) ∙ ap (λ (x : Byte). cond (leb (from - low) (a - low) && ltb (a - low) (min (to - low) (length bs))) Unspecified x) none ∙ both_unspecified (leb (from - low) (a - low) && ltb (a - low) (min (to - low) (length bs)))
+        ∙ sym (ap (λ (x : Byte). cond (leb from a && ltb a to) Unspecified x) none ∙ both_unspecified (leb from a && ltb a to))
   ]
 
   pub byte_forgotten : (a : ℕ) → byte_from low cs a ≡ cond (leb from a && ltb a to) Unspecified (byte_from low bs a)
   byte_forgotten a = elim (cases_lt a low) [
     | inl less ↦ below a less
     | inr order ↦
-      let t : leb low a ≡ true = grind (arith, nat_tests) in
-      ap (λ (x : Bool). cond x (get_or cs (a - low) Unspecified) Unspecified) t ∙ there a order
-      ∙ sym (ap (λ (x : Bool). cond (leb from a && ltb a to) Unspecified (cond x (get_or bs (a - low) Unspecified) Unspecified)) t)
+        let t : leb low a ≡ true = grind (arith, nat_tests) in
+        ap (λ (x : Bool). cond x (get_or cs (a - low) Unspecified) Unspecified) t ∙ there a order
+        ∙ sym (ap (λ (x : Bool). cond (leb from a && ltb a to) Unspecified (cond x (get_or bs (a - low) Unspecified) Unspecified)) t)
   ]
 
 -- ---- one frame after another

@@ -1,5 +1,5 @@
 // What no clause says: that frames open with ample memory, and what a worked frame holds.
-use crate::{FrameStart, OpenFrames};
+use crate::{FrameStart, OpenFrames, ReturnCheck, ReturnPlace};
 use flag_ir::{Block, BlockList, FrameKind, LocalList, LocalSlot, Proc};
 use mem_pages::Pages;
 use std::alloc::{AllocError, Global};
@@ -97,5 +97,34 @@ fn opens_others(rt: HostRuntime) -> Result<(), Fail> {
     let (deep, too_deep) = opened(rt.alloc(), procs.as_slice(), ESP0 - 4_194_300, &pages)?;
     assert!(rt; !too_deep);
     assert_eq!(rt; deep.reached(), 0);
+    Ok(())
+}
+
+#[test]
+fn closes_a_frame(rt: HostRuntime) -> Result<(), Fail> {
+    let procs = Vec::from_array(rt.alloc(), [worked_proc(rt.alloc(), FrameKind::Guarded)?])?;
+    let mut pages = stack(rt.alloc())?;
+    let (mut frames, is_open) = opened(rt.alloc(), procs.as_slice(), ESP0, &pages)?;
+    assert!(rt; is_open);
+    assert!(rt; frames.put_place(2, 4, word_of(0x0a0b)));
+    assert_eq!(rt; frames.check_return(word_of(7), &pages), ReturnCheck::Kept);
+    assert_eq!(rt;
+        frames.check_return(word_of(8), &pages),
+        ReturnCheck::Changed
+    );
+    assert!(rt; frames.put_place(1, 0, word_of(9)));
+    assert_eq!(rt;
+        frames.check_return(word_of(7), &pages),
+        ReturnCheck::Changed
+    );
+    let place = ReturnPlace {
+        back: None,
+        word: word_of(0x0403_0201),
+    };
+    assert_eq!(rt; frames.close(&mut pages)?, Some(place));
+    assert_eq!(rt; pages.load(ESP0 + 4, 4), Some(word_of(0x0807_0a0b)));
+    assert_eq!(rt; pages.load(ESP0, 4), Some(word_of(0x0403_0201)));
+    assert_eq!(rt; frames.get_place(4, 0), None);
+    assert_eq!(rt; frames.close(&mut pages)?, None);
     Ok(())
 }

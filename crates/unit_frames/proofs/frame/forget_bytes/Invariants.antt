@@ -6,5 +6,5 @@ abbrev pub invariant-loop-k : goal.invariant-loop-k
 invariant-loop-k l = record {
   bytes : (j : ℕ) → get_or l.bytes.items j Unspecified ≡ cond (leb l.first j && ltb j l.k) Unspecified (get_or l.fn.bytes.items j Unspecified);
   len : length l.bytes.items ≡ length l.fn.bytes.items;
-  bound : l.k ≤ max l.first l.last
+  bound : l.k ≤ max l.first l.last;
 }

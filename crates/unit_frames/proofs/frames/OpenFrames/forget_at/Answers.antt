@@ -1,4 +1,4 @@
-use Rattle.std.proofs.Common.{◌≡◌, ap, ◌∙◌, List}
+use Rattle.std.proofs.Common.{ap, ◌∙◌, List}
 use Rattle.unit_frames.specs.declared.frame.OpenFrame.{OpenFrame}
 use Rattle.unit_frames.specs.Kept.{frames_of}
 use Rattle.unit_frames.proofs.Forgetting.{forgot_one}
