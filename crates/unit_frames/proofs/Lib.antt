@@ -13,3 +13,4 @@ pub mod LocalWords
 pub mod Returns
 pub mod Forgetting
 pub mod CopyingBack
+pub mod Calls

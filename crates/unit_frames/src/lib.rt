@@ -1,6 +1,7 @@
 //! The open frames of a unit's run: their bytes, locals, and the accesses that stay in them.
 #![tactic(auto)]
 
+mod calling;
 mod closing;
 mod fixed;
 mod frame;

@@ -106,6 +106,11 @@ fn closes_a_frame(rt: HostRuntime) -> Result<(), Fail> {
     let mut pages = stack(rt.alloc())?;
     let (mut frames, is_open) = opened(rt.alloc(), procs.as_slice(), ESP0, &pages)?;
     assert!(rt; is_open);
+    assert_eq!(rt; frames.procedure(), Some(0));
+    for proc in procs.as_slice() {
+        assert!(rt; frames.holds_call(ESP0 - 8, proc));
+        assert!(rt; !frames.holds_call(ESP0 - 7, proc));
+    }
     assert!(rt; frames.put_place(2, 4, word_of(0x0a0b)));
     assert_eq!(rt; frames.check_return(word_of(7), &pages), ReturnCheck::Kept);
     assert_eq!(rt;
