@@ -4,9 +4,9 @@
 Each file is made here, with a section .text, so that objdump has something to do. Large ones: 32,768 jumps that are spread over 4 MiB,
 an image of 64 MiB that is nearly all data, and one all of whose words are the address of the entry. Of the other shapes, each would show a
 cost that grows with the square of its size: jumps backwards, each to the one before; calls of one procedure; calls into one run, each at
-another place; table jumps whose tables share their words; runs that overlap; and a thousand segments. They are timed at two sizes, and twice
-the size may cost at most 2.5 times as much. The status is 0 where that is so, 1 where it isn't, and 3 where nothing was measured, since the
-program isn't there.
+another place; table jumps whose tables share their words; words beside many tables; runs that overlap; and a thousand segments. They are
+timed at two sizes, and twice the size may cost at most 2.5 times as much. The status is 0 where that is so, 1 where it isn't, and 3 where
+nothing was measured, since the program isn't there.
 """
 
 import os
@@ -109,6 +109,16 @@ def shared_tables(size):
     return file_of(BASE, [(BASE, code + RET + RET * 1024, READ | RUN), (DATA, words, READ)])
 
 
+def words_beside_tables(size):
+    """JE to behind it and JMP [ecx*4 + table], so often, each with a table of one word; and 32 times as many words that are the address of a
+    byte at which no instruction stands."""
+    front = 9 * size
+    code = b"".join(b"\x74\x07\xFF\x24\x8D" + struct.pack("<I", DATA + 8 * place) for place in range(size))
+    tables = struct.pack("<II", BASE + front, 0) * size
+    words = struct.pack("<I", BASE + front + 1) * (32 * size)
+    return file_of(BASE, [(BASE, code + RET + b"\x06", READ | RUN), (DATA, tables + words, READ)])
+
+
 def overlapping_runs(size):
     """Five runs of MOV eax, imm32 through the same bytes, each a byte later than the one before."""
     front = b"".join(b"\x0F\x84" + struct.pack("<I", 6 * (3 - place) + 1 + place) for place in range(4))
@@ -132,6 +142,7 @@ SHAPES = (
     ("calls of one procedure", calls_of_one, 30000),
     ("calls into one run", calls_into_a_run, 30000),
     ("tables that share words", shared_tables, 1000),
+    ("words beside tables", words_beside_tables, 10000),
     ("runs that overlap", overlapping_runs, 30000),
     ("segments of 30", many_segments, 1000),
 )

@@ -1,6 +1,7 @@
 mod Members
 mod Sets
 mod TableMaps
+mod Extents
 mod Growth
 mod OneMore
 mod Runs

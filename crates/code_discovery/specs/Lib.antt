@@ -1,5 +1,6 @@
 pub mod Added
 pub mod Discovery
+pub mod Extents
 pub mod Kept
 pub mod Popped
 pub mod Settled

@@ -22,7 +22,7 @@ fn kept_of(alloc: Global, scan: &IndexedImage) -> Result<Kept, DiscoverError>
     let mut kept = Kept::new(alloc);
     kept.add_procedure(scan, scan.image().entry)?;
     kept.settle_all(alloc, scan)?;
-    kept.add_stored(scan)?;
+    kept.add_stored(alloc, scan)?;
     kept.settle_all(alloc, scan)?;
     Ok(kept)
 }

@@ -10,9 +10,11 @@ ghost use Rattle.code_discovery.specs.Kept.{IsSoundSoFar};
 ghost use Rattle.code_discovery.specs.Popped.{IsPopped};
 ghost use Rattle.code_discovery.specs.Tables.{IsLengthAt};
 ghost use Rattle.code_discovery.specs.Added.{IsCodeAdded, IsLeaderAdded, IsProcedureAdded, IsTableAdded};
-ghost use Rattle.code_discovery.specs.Whole.{AreTablesApart, IsAllFound, with_stored};
+ghost use Rattle.code_discovery.specs.Extents.{TellsOf};
+ghost use Rattle.code_discovery.specs.Whole.{IsAllFound, with_stored};
 
 use crate::address_set::AddressSet;
+use crate::table_extents::TableExtents;
 use crate::table_map::TableMap;
 use crate::work::Work;
 use code_scan::IndexedImage;
@@ -115,11 +117,11 @@ impl Kept {
         self.stored = true;
     }
 
-    // Whether no table shares a byte with a word.
-    pub(crate) fn is_apart(&self, at: u32) -> bool
-        ensures { IsTrue result ↔ AreTablesApart self.now.tables at }
+    // From where to where bytes of tables stand.
+    pub(crate) fn table_extents(&self, alloc: Global) -> Result<TableExtents, AllocError>
+        ensures { IfOk result (λ e. TellsOf self.now.tables e) }
     {
-        self.tables.is_apart(at)
+        TableExtents::new(alloc, &self.tables)
     }
 
     // Takes the last of what is to be looked at.

@@ -12,6 +12,7 @@ mod leading;
 mod leading_rows;
 mod settling;
 mod stored;
+mod table_extents;
 mod table_map;
 #[cfg(test)]
 mod table_rows;

@@ -3,6 +3,7 @@ ghost use Rattle.std.specs.Prelude.{◌≡◌, ◌+◌, ◌*◌, ◌%◌, ◌/�
 ghost use Rattle.image.specs.Addresses.{can_run};
 ghost use Rattle.plan_types.specs.FoundCode.{Stands, word_at};
 ghost use Rattle.code_discovery.specs.Discovery.{IsTooMuch};
+ghost use Rattle.code_discovery.specs.Extents.{TellsOf};
 ghost use Rattle.code_discovery.specs.Kept.{IsSoundSoFar};
 ghost use Rattle.code_discovery.specs.Settled.{IsSettling, IsClosed, KeepsFound, IsMore};
 ghost use Rattle.code_discovery.specs.Whole.{AreTablesApart, HasEntry, HasStored, TellsApart};
@@ -11,17 +12,25 @@ ghost use Rattle.code_discovery.specs.Words.{IsStoredKept, IsPageKept, AreStored
 
 use crate::DiscoverError;
 use crate::kept::Kept;
+use crate::table_extents::TableExtents;
 use byte_lists::word_at;
 use code_scan::{CodeSpan, IndexedImage};
 use image::{Segment, fits_wide_room, has_its_place};
 use plan_types::run_laws;
+use std::alloc::Global;
 
 impl Kept {
     // Gives the address that stands as a word, outside the tables.
-    fn add_word(&mut self, scan: &IndexedImage, at: u32) -> Result<(), DiscoverError>
+    fn add_word(
+        &mut self,
+        scan: &IndexedImage,
+        extents: &TableExtents,
+        at: u32,
+    ) -> Result<(), DiscoverError>
         requires sound { IsSoundSoFar scan.now self.old }
         requires stored { self.old.stored ≡ true }
         requires apart { TellsApart scan.now self.old.tables }
+        requires extents { TellsOf self.old.tables extents.now }
         requires aligned { at % 4 ≡ 0 }
         ensures more { OnOk result (IsMore scan.now self.old self.new) }
         ensures tables { OnOk result (self.new.tables ≡ self.old.tables) }
@@ -31,7 +40,7 @@ impl Kept {
         let Some(word) = scan.word_at(at) else {
             return Ok(());
         };
-        if scan.can_run(word) && !self.has_procedure(word) && self.is_apart(at) {
+        if scan.can_run(word) && !self.has_procedure(word) && extents.is_clear(at) {
             self.add_procedure(scan, word)?;
             self.check_count(scan)?;
         }
@@ -42,6 +51,7 @@ impl Kept {
     fn add_near_word(
         &mut self,
         scan: &IndexedImage,
+        extents: &TableExtents,
         span: CodeSpan,
         word: u32,
         at: u32,
@@ -49,6 +59,7 @@ impl Kept {
         requires sound { IsSoundSoFar scan.now self.old }
         requires stored { self.old.stored ≡ true }
         requires apart { TellsApart scan.now self.old.tables }
+        requires extents { TellsOf self.old.tables extents.now }
         requires aligned { at % 4 ≡ 0 }
         requires span { IsCodeSpan scan.now span }
         requires word { (a : ℕ) → word_at scan.now at ≡ Some a → a ≡ word }
@@ -58,7 +69,7 @@ impl Kept {
         ensures refused { IfErr result (λ e. IsTooMuch scan.now e) }
     {
         if span.has(word) {
-            self.add_word(scan, at)?;
+            self.add_word(scan, extents, at)?;
         }
         Ok(())
     }
@@ -67,12 +78,14 @@ impl Kept {
     fn add_page_words(
         &mut self,
         scan: &IndexedImage,
+        extents: &TableExtents,
         span: CodeSpan,
         page: u32,
     ) -> Result<(), DiscoverError>
         requires sound { IsSoundSoFar scan.now self.old }
         requires stored { self.old.stored ≡ true }
         requires apart { TellsApart scan.now self.old.tables }
+        requires extents { TellsOf self.old.tables extents.now }
         requires span { IsCodeSpan scan.now span }
         requires aligned { page % 4096 ≡ 0 }
         ensures more { OnOk result (IsMore scan.now self.old self.new) }
@@ -83,7 +96,7 @@ impl Kept {
         let bytes = scan.bytes_from(page);
         for index in 0..(bytes.len() / 4).min(1024) {
             let word = word_at(bytes, 4 * index);
-            self.add_near_word(scan, span, word, page + 4 * index as u32)?;
+            self.add_near_word(scan, extents, span, word, page + 4 * index as u32)?;
         }
         Ok(())
     }
@@ -92,12 +105,14 @@ impl Kept {
     fn add_page(
         &mut self,
         scan: &IndexedImage,
+        extents: &TableExtents,
         span: CodeSpan,
         page: u32,
     ) -> Result<(), DiscoverError>
         requires sound { IsSoundSoFar scan.now self.old }
         requires stored { self.old.stored ≡ true }
         requires apart { TellsApart scan.now self.old.tables }
+        requires extents { TellsOf self.old.tables extents.now }
         requires span { IsCodeSpan scan.now span }
         requires aligned { page % 4096 ≡ 0 }
         ensures more { OnOk result (IsMore scan.now self.old self.new) }
@@ -109,19 +124,21 @@ impl Kept {
         if span.has_none(bytes, (bytes.len() / 4).min(1024)) {
             return Ok(());
         }
-        self.add_page_words(scan, span, page)
+        self.add_page_words(scan, extents, span, page)
     }
 
     // Gives those of a segment.
     fn add_words(
         &mut self,
         scan: &IndexedImage,
+        extents: &TableExtents,
         span: CodeSpan,
         segment: &Segment,
     ) -> Result<(), DiscoverError>
         requires sound { IsSoundSoFar scan.now self.old }
         requires stored { self.old.stored ≡ true }
         requires apart { TellsApart scan.now self.old.tables }
+        requires extents { TellsOf self.old.tables extents.now }
         requires span { IsCodeSpan scan.now span }
         ensures more { OnOk result (IsMore scan.now self.old self.new) }
         ensures tables { OnOk result (self.new.tables ≡ self.old.tables) }
@@ -130,13 +147,17 @@ impl Kept {
     {
         has_its_place(segment);
         for page in 0..segment.size / 4096 {
-            self.add_page(scan, span, segment.start + 4096 * page)?;
+            self.add_page(scan, extents, span, segment.start + 4096 * page)?;
         }
         Ok(())
     }
 
     // Gives the addresses that the image holds as words, outside the tables of what is kept.
-    pub(crate) fn add_stored(&mut self, scan: &IndexedImage) -> Result<(), DiscoverError>
+    pub(crate) fn add_stored(
+        &mut self,
+        alloc: Global,
+        scan: &IndexedImage,
+    ) -> Result<(), DiscoverError>
         requires sound { IsSoundSoFar scan.now self.old }
         requires closed { IsClosed scan.now self.old }
         requires entry { HasEntry scan.now self.old }
@@ -151,9 +172,10 @@ impl Kept {
         let image = scan.image();
         fits_wide_room(image);
         let span = scan.code_span();
+        let extents = self.table_extents(alloc)?;
         self.give_stored();
         for segment in image.segments.as_slice() {
-            self.add_words(scan, span, segment)?;
+            self.add_words(scan, &extents, span, segment)?;
         }
         Ok(())
     }

@@ -1,11 +1,11 @@
 // The tables of table jumps.
-ghost use Rattle.std.specs.Prelude.{◌≡◌, ◌↔◌, [], map, IsTrue, IfOk, OnOk};
+ghost use Rattle.std.specs.Prelude.{◌≡◌, [], map, IfOk, OnOk};
 ghost use Rattle.std.specs.List.Sorted.{IsStrictlyIncreasing};
 ghost use Rattle.plan_types.specs.declared.table.Table.{Table};
-ghost use Rattle.plan_types.specs.FoundCode.{IsApart};
-ghost use Rattle.code_discovery.specs.Whole.{AreTablesApart};
+ghost use Rattle.code_discovery.specs.Extents.{extent_of};
 ghost use Rattle.code_discovery.specs.Tables.{IsLengthAt, IsPut};
 
+use crate::table_extents::{TableExtent, extent_of};
 use plan_types::Table;
 use std::alloc::{AllocError, Global};
 use std::collections::BTreeMap;
@@ -31,16 +31,6 @@ impl Model for TableMap {
     ghost invariant = { λ m. IsTableMap m.tables };
 }
 
-// Whether a table shares no byte with a word.
-fn is_apart(table: &Table, at: u32) -> bool
-    ensures { IsTrue result ↔ IsApart at table.now }
-{
-    let start = u64::from(table.start);
-    let count = table.targets.as_slice().len() as u64;
-    let at = u64::from(at);
-    at + 4 <= start || at >= start && (at - start) / 4 >= count
-}
-
 impl TableMap {
     pub(crate) fn new(alloc: Global) -> TableMap
         ensures { result ≡ [] }
@@ -60,11 +50,11 @@ impl TableMap {
         }
     }
 
-    // Whether none of the tables shares a byte with a word.
-    pub(crate) fn is_apart(&self, at: u32) -> bool
-        ensures { IsTrue result ↔ AreTablesApart self.now at }
+    // From where to where their bytes stand.
+    pub(crate) fn extents(&self, alloc: Global) -> Result<Vec<TableExtent>, AllocError>
+        ensures { IfOk result (λ v. v.items ≡ map extent_of self.now) }
     {
-        self.tables.values().all(|table| is_apart(table, at))
+        self.tables.values().map(extent_of).collect(alloc)
     }
 
     // Adds a table, in place of the one of the same jump.

@@ -48,14 +48,14 @@ summed : (a : ℕ) → a < 4294967296 → (a + 0 * 1 + 0) % 4294967296 ≡ a
 summed a h = omega (arith, h)
 
 -- as the second operand, and as the first one
-second_address : (to : Slot) (t : Term) (s : CodeState) (a : ℕ) → IsAddress t s a → effective_address (naming_of (with_source to t)) s.cpu.regs (address_of t) ≡ Some a
+pub second_address : (to : Slot) (t : Term) (s : CodeState) (a : ℕ) → IsAddress t s a → effective_address (naming_of (with_source to t)) s.cpu.regs (address_of t) ≡ Some a
 second_address to (term.Var v) s a h = rw h.0 (ap (λ (n : ℕ). Some n) (summed a h.1))
 second_address to (term.Word n) s a h = ap (λ (n : ℕ). Some n) (let g = number_of_word n a h.0 in let k : (0 + 0 * 1 + n) % 4294967296 ≡ n % 4294967296 = omega arith in k ∙ g)
 
-first_address : (v : Var) (from : Slot) (s : CodeState) (a : ℕ) → IsAddress (term.Var v) s a → effective_address (naming_of (slot_of v ∷ from ∷ [])) s.cpu.regs (based_on Eax) ≡ Some a
+pub first_address : (v : Var) (from : Slot) (s : CodeState) (a : ℕ) → IsAddress (term.Var v) s a → effective_address (naming_of (slot_of v ∷ from ∷ [])) s.cpu.regs (based_on Eax) ≡ Some a
 first_address v from s a h = rw h.0 (ap (λ (n : ℕ). Some n) (summed a h.1))
 
-word_address : (n : ℕ) (from : Slot) (s : CodeState) (a : ℕ) → IsAddress (term.Word n) s a → effective_address (naming_of (from ∷ [])) s.cpu.regs (at_word n) ≡ Some a
+pub word_address : (n : ℕ) (from : Slot) (s : CodeState) (a : ℕ) → IsAddress (term.Word n) s a → effective_address (naming_of (from ∷ [])) s.cpu.regs (at_word n) ≡ Some a
 word_address n from s a h = ap (λ (n : ℕ). Some n) (let g = number_of_word n a h.0 in let k : (0 + 0 * 1 + n) % 4294967296 ≡ n % 4294967296 = omega arith in k ∙ g)
 
 -- ---- a load

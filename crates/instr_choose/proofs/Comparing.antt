@@ -113,3 +113,11 @@ module _ (less : LessSpecifiedLaws) (words : WordLaws) where
       cases : (o : Option ℕ) → known t ≡ o → WordLessSpecified (picked o x y) (chosen (condition condition_of.Ne (sub 4 t' (word_of 0) (Some false)).flags) y' x')
       cases None e = nothing _
       cases (Some n) e = let i = fits t t' n h e in rw (i.0, zero_number, not_zero n i.1) (by_zero (n == 0))
+
+  -- a comparison with 0 tells whether a number that is known is 0
+  pub not_zero_says : (t t' : Word) (n : ℕ) → WordLessSpecified t t' → known t ≡ Some n → condition condition_of.Ne (sub 4 t' (word_of 0) (Some false)).flags ≡ Some (not (n == 0))
+  unfolding sub
+  not_zero_says t t' n h e =
+      let i = fits t t' n h e in
+      let zero : number 4 (word_of 0) ≡ Some 0 = number_known (word_of 0) ∙ words.known_word 0 (omega arith) in
+      rw (i.0, zero, not_zero n i.1) refl

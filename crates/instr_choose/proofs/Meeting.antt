@@ -16,6 +16,7 @@ use Rattle.instr_choose.proofs.Choosing.{LawsBelow, set_meets, pick_meets, calc_
 use Rattle.instr_choose.proofs.Memories.{load_meets, store_meets, system_meets}
 use Rattle.instr_choose.proofs.Dividing.{divide_meets}
 use Rattle.instr_choose.proofs.Behind.{lists_meet}
+use Rattle.instr_choose.proofs.Lengths.{op_length, exit_length}
 
 module _ (laws : LawsBelow) where
   abbrev Met : ℕ → Op → Storage → CodeState → Type 0
@@ -40,4 +41,4 @@ module _ (laws : LawsBelow) where
   comes turn op.NearSystem u s i f h = absurd f
 
   pub choosing_laws : ChoosingLaws
-  choosing_laws = record { meets = λ turn o u s i f h. (comes turn o u s i f h).met; lists_meet = lists_meet (λ turn o u s i f h. (comes turn o u s i f h).met) }
+  choosing_laws = record { meets = λ turn o u s i f h. (comes turn o u s i f h).met; lists_meet = lists_meet (λ turn o u s i f h. (comes turn o u s i f h).met); op_length = op_length; exit_length = exit_length }

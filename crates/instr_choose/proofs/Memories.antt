@@ -17,7 +17,7 @@ use Rattle.x86_types.specs.Numbers.{size_of}
 use Rattle.memory.specs.Memory.{Memory, Stored, Load, Store, allows_all, bytes_at, put_all, store_all}
 use Rattle.memory.specs.SystemCall.{Called, Ends, Gives, system_call}
 use Rattle.memory.specs.CallLaws.{CallIsKept, StoresBytes}
-use Rattle.memory.specs.LessSpecified.{MemoryLessSpecified, StoresLessSpecified, EndLessSpecified, CalledLessSpecified}
+use Rattle.memory.specs.LessSpecified.{MemoryLessSpecified, StoresLessSpecified, RequestLessSpecified, EndLessSpecified, CalledLessSpecified}
 use Rattle.x86_meaning.specs.Step.{request_of, with_result}
 use Rattle.flag_ir.specs.declared.variable.Var.{Var}
 use Rattle.flag_ir.specs.declared.variable.Var.TheVariants as var
@@ -146,24 +146,43 @@ module _ (laws : LawsBelow) where
       (shows s1 (λ rest. is rest ∙ ap (λ (c : Called). after_call c rest s) less)
       (result laws (var.Reg 0) (word_of n) (Fixed Eax) u1 s1 (omega arith) (subst (WordLessSpecified (word_of n)) (sym (here 0 (word_of n) s.cpu.regs)) (value_below laws (term.Word n) u s tt h)) below))
 
+  -- the registers by which it is asked
+  abbrev pub asked_number : CodeState → CodeState
+  asked_number s = with_place 0 (s.cpu.regs 8) s
+
+  abbrev pub asked_fd : CodeState → CodeState
+  asked_fd s = with_place 3 ((asked_number s).cpu.regs 11) (asked_number s)
+
+  abbrev pub asked_at : CodeState → CodeState
+  asked_at s = with_place 1 ((asked_fd s).cpu.regs 9) (asked_fd s)
+
+  abbrev pub asked_count : CodeState → CodeState
+  asked_count s = with_place 2 ((asked_at s).cpu.regs 10) (asked_at s)
+
+  pub asks_less : (u : Storage) (s : CodeState) → IsBelow u s → RequestLessSpecified (request_in u) (request_of (asked_count s).cpu)
+  asks_less u s h =
+      let s1 = asked_number s in
+      let h1 = scratch u s 0 (s.cpu.regs 8) (omega arith) h in
+      let s2 = asked_fd s in
+      let h2 = scratch u s1 3 (s1.cpu.regs 11) (omega arith) h1 in
+      let s3 = asked_at s in
+      let h3 = scratch u s2 1 (s2.cpu.regs 9) (omega arith) h2 in
+      record {
+        number = subst (WordLessSpecified (u.regs 0)) (sym (elsewhere 2 0 (s3.cpu.regs 10) s3.cpu.regs (λ e. omega (arith, e)) ∙ elsewhere 1 0 (s2.cpu.regs 9) s2.cpu.regs (λ e. omega (arith, e)) ∙ elsewhere 3 0 (s1.cpu.regs 11) s1.cpu.regs (λ e. omega (arith, e)) ∙ here 0 (s.cpu.regs 8) s.cpu.regs)) (h.vars (var.Reg 0) (omega arith));
+        fd = subst (WordLessSpecified (u.regs 3)) (sym (elsewhere 2 3 (s3.cpu.regs 10) s3.cpu.regs (λ e. omega (arith, e)) ∙ elsewhere 1 3 (s2.cpu.regs 9) s2.cpu.regs (λ e. omega (arith, e)) ∙ here 3 (s1.cpu.regs 11) s1.cpu.regs)) (h1.vars (var.Reg 3) (omega arith));
+        at = subst (WordLessSpecified (u.regs 1)) (sym (elsewhere 2 1 (s3.cpu.regs 10) s3.cpu.regs (λ e. omega (arith, e)) ∙ here 1 (s2.cpu.regs 9) s2.cpu.regs)) (h2.vars (var.Reg 1) (omega arith));
+        count = subst (WordLessSpecified (u.regs 2)) (sym (here 2 (s3.cpu.regs 10) s3.cpu.regs)) (h3.vars (var.Reg 2) (omega arith));
+      }
+
   pub system_meets : (u : Storage) (s : CodeState) → IsBelow u s → Comes (called (call_in u) u) (labels_of (call_in u)) (map named_item choose_system) s
   system_meets u s h =
-      let r0 = s.cpu.regs 8 in
-      let s1 = with_place 0 r0 s in
-      let h1 = scratch u s 0 r0 (omega arith) h in
-      let s2 = with_place 3 (s1.cpu.regs 11) s1 in
-      let h2 = scratch u s1 3 (s1.cpu.regs 11) (omega arith) h1 in
-      let s3 = with_place 1 (s2.cpu.regs 9) s2 in
-      let h3 = scratch u s2 1 (s2.cpu.regs 9) (omega arith) h2 in
-      let s4 = with_place 2 (s3.cpu.regs 10) s3 in
-      let h4 = scratch u s3 2 (s3.cpu.regs 10) (omega arith) h3 in
-      let less_0 = subst (WordLessSpecified (u.regs 0)) (sym (elsewhere 2 0 (s3.cpu.regs 10) s3.cpu.regs (λ e. omega (arith, e)) ∙ elsewhere 1 0 (s2.cpu.regs 9) s2.cpu.regs (λ e. omega (arith, e)) ∙ elsewhere 3 0 (s1.cpu.regs 11) s1.cpu.regs (λ e. omega (arith, e)) ∙ here 0 r0 s.cpu.regs)) (h.vars (var.Reg 0) (omega arith)) in
-      let less_3 = subst (WordLessSpecified (u.regs 3)) (sym (elsewhere 2 3 (s3.cpu.regs 10) s3.cpu.regs (λ e. omega (arith, e)) ∙ elsewhere 1 3 (s2.cpu.regs 9) s2.cpu.regs (λ e. omega (arith, e)) ∙ here 3 (s1.cpu.regs 11) s1.cpu.regs)) (h1.vars (var.Reg 3) (omega arith)) in
-      let less_1 = subst (WordLessSpecified (u.regs 1)) (sym (elsewhere 2 1 (s3.cpu.regs 10) s3.cpu.regs (λ e. omega (arith, e)) ∙ here 1 (s2.cpu.regs 9) s2.cpu.regs)) (h2.vars (var.Reg 1) (omega arith)) in
-      let less_2 = subst (WordLessSpecified (u.regs 2)) (sym (here 2 (s3.cpu.regs 10) s3.cpu.regs)) (h3.vars (var.Reg 2) (omega arith)) in
+      let s1 = asked_number s in
+      let s2 = asked_fd s in
+      let s3 = asked_at s in
+      let s4 = asked_count s in
+      let h4 = scratch u s3 2 (s3.cpu.regs 10) (omega arith) (scratch u s2 1 (s2.cpu.regs 9) (omega arith) (scratch u s1 3 (s1.cpu.regs 11) (omega arith) (scratch u s 0 (s.cpu.regs 8) (omega arith) h))) in
       let same : CalledLessSpecified (call_in u) (system_call (request_of s4.cpu) s4.memory s4.left) =
-      subst (λ (l : Environment). CalledLessSpecified (call_in u) (system_call (request_of s4.cpu) s4.memory l)) h.left
-      (laws.memory.call (request_in u) (request_of s4.cpu) u.memory s.memory u.left (record { number = less_0; fd = less_3; at = less_1; count = less_2 }) h.memory) in
+      subst (λ (l : Environment). CalledLessSpecified (call_in u) (system_call (request_of s4.cpu) s4.memory l)) h.left (laws.memory.call (request_in u) (request_of s4.cpu) u.memory s.memory u.left (asks_less u s h) h.memory) in
       then s1 (copy_is (Fixed Eax) (Name 0) s)
       (then s2 (copy_is (Fixed Ebx) (Name 3) s1)
       (then s3 (copy_is (Fixed Ecx) (Name 1) s2)

@@ -1,8 +1,9 @@
 -- The small unit is in form, and its temporaries have names.
-use Rattle.std.proofs.Common.{◌≡◌, ℕ, zero, suc, true, [], ◌∷◌, slice_get, All, Contains, Some, refl, sym, ap, subst, arith}
+use Rattle.std.proofs.Common.{◌≡◌, ℕ, zero, suc, true, [], ◌∷◌, slice_get, ◌<◌, All, Contains, None, Some, refl, sym, ap, subst, arith}
 use Rattle.std.proofs.lemmas.List.Elements.{All-nil, All-cons, All-contains}
 use Rattle.flag_ir.specs.declared.block.Block.{Block}
 use Rattle.flag_ir.specs.Entering.{CodeUnit}
+use Rattle.flag_ir.specs.Shape.{Part, named_by, GoesTo, IsWellShaped}
 use Rattle.flag_ir.specs.Form.{IsOp, IsExit, IsFrameless, IsFramelessBlock, IsInForm}
 use Rattle.instr_choose.specs.Blocks.{OpHasNames, BlockHasNames, UnitHasNames}
 use Rattle.instr_choose.specs.SmallUnit.{small_block, small_unit}
@@ -31,6 +32,23 @@ in_form = record {
 names : UnitHasNames small_unit
 names = All-cons BlockHasNames small_block [] (record { ops = All-cons OpHasNames _ [] (tt, tt, tt) (All-nil OpHasNames); exit = tt }) (All-nil BlockHasNames)
 
+at_small : (k : ℕ) (b : Block) → slice_get (small_block ∷ []) k ≡ Some b → small_block ≡ b
+at_small zero b e = cc
+at_small (suc k) b e = absurd cc
+
+never_on : (part : Part) (k : ℕ) (b : Block) (j : ℕ) (d : Block) → GoesTo small_unit part k b j d → b.at ≡ 0 → d.at ≡ 0 → k < j
+never_on None k b j d g = absurd (none_in g.number (subst (λ (x : Block). Contains (named_by x.exit) g.number) (sym (at_small k b g.from.1)) g.named))
+never_on (Some p) k b j d g = absurd (none_in p g.from.0)
+
+well_shaped : IsWellShaped small_unit
+well_shaped = record {
+  whole = (in_form.lowered refl).blocks;
+  onward = never_on;
+  return = λ p k b part j d r. absurd (none_in p r.from.0);
+  procs = λ p h. absurd (none_in p h);
+  apart = λ i j p q e. absurd cc;
+}
+
 pub small_in_form : (u : CodeUnit) → u ≡ small_unit → IsInForm u
 small_in_form u e = subst IsInForm (sym e) in_form
 
@@ -39,3 +57,6 @@ small_has_names u e = subst UnitHasNames (sym e) names
 
 pub small_is_lowered : (u : CodeUnit) → u ≡ small_unit → u.lowered ≡ true
 small_is_lowered u e = ap (λ (v : CodeUnit). v.lowered) e
+
+pub small_is_well_shaped : (u : CodeUnit) → u ≡ small_unit → IsWellShaped u
+small_is_well_shaped u e = subst IsWellShaped (sym e) well_shaped

@@ -1,4 +1,9 @@
+pub mod Apart
 pub mod Blocks
+pub mod Choosing
+pub mod ChosenLaw
 pub mod Lists
+pub mod Marks
 pub mod Relation
 pub mod SmallUnit
+pub mod States

@@ -1,17 +1,19 @@
 -- A lowered unit's storage beside the places of its variables, and what a list owes to its operation. All of this is own.
-use Rattle.std.specs.Prelude.{◌≡◌, ◌≢◌, ℕ, List, [], ◌∷◌, ◌++◌, All, map, Result, Ok, Err}
+use Rattle.std.specs.Prelude.{◌≡◌, ◌≢◌, ℕ, ◌≤◌, List, [], ◌∷◌, ◌++◌, length, All, map, Result, Ok, Err}
 use Rattle.outside.specs.Environment.{IsEnvironment}
 use Rattle.x86_values.specs.LessSpecified.{WordLessSpecified}
 use Rattle.traces.specs.Trace.{Label, End, Go, Halt, Unspecified}
 use Rattle.memory.specs.LessSpecified.{MemoryLessSpecified}
 use Rattle.flag_ir.specs.declared.variable.Var.{Var}
 use Rattle.flag_ir.specs.declared.operation.Op.{Op}
+use Rattle.flag_ir.specs.declared.block.Exit.{Exit}
 use Rattle.flag_ir.specs.Storage.{Storage, var_in}
 use Rattle.flag_ir.specs.Operations.{perform, performs, shown_by, shown_by_all}
 use Rattle.flag_ir.specs.Form.{IsVar, IsOp, IsFrameless}
 use Rattle.named_code.specs.Items.{Item, named_item, name_place}
 use Rattle.named_code.specs.Running.{CodeState, CodePoint, standing_at, act}
 use Rattle.instr_choose.specs.Lists.{name_of, choose_op, choose_ops}
+use Rattle.instr_choose.specs.Blocks.{choose_exit}
 
 abbrev pub place_of_var : Var → ℕ
 place_of_var v = name_place (name_of v)
@@ -65,3 +67,6 @@ pub record ChoosingLaws : Type 0 where
   pub meets : (turn : ℕ) (o : Op) (u : Storage) (s : CodeState) → IsOp 0 o → IsFrameless o → IsBelow u s → IsMetByList (perform turn o u) (shown_by o u) (map named_item (choose_op o)) s
   -- and so are several, one behind the other
   pub lists_meet : (turn : ℕ) (ops : List Op) (u : Storage) (s : CodeState) → All (IsOp 0) ops → All IsFrameless ops → IsBelow u s → AreMetBy (performs turn ops u) (shown_by_all turn ops u) (map named_item (choose_ops ops)) s
+  -- the most instructions that an operation and an exit become
+  pub op_length : (o : Op) → length (choose_op o) ≤ 11
+  pub exit_length : (e : Exit) → length (choose_exit e) ≤ 4

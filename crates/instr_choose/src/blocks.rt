@@ -1,9 +1,12 @@
 // The blocks of named code.
 ghost use Rattle.std.specs.Prelude.{◌≡◌, true, All, IfOk};
 ghost use Rattle.flag_ir.specs.Form.{IsInForm};
+ghost use Rattle.flag_ir.specs.Shape.{IsWellShaped};
 ghost use Rattle.instr_choose.specs.Blocks.{BlockHasNames, OpHasNames, UnitHasNames, choose_block, choose_blocks};
+ghost use Rattle.instr_choose.specs.Choosing.{Chooses};
 ghost use Rattle.instr_choose.specs.Lists.{choose_ops};
 
+use crate::laws::chosen_law;
 use crate::operations::{choose_exit, choose_op};
 use flag_ir::{Block, Op, Unit};
 use named_code::{VBlock, VCode, VInstr, VInstrList};
@@ -34,18 +37,30 @@ fn choose_block(alloc: Global, block: &Block) -> Result<VBlock, AllocError>
     })
 }
 
-/// The named code of a lowered unit: a block for each of its blocks, with the same number and the same old address. The registers
-/// live in the names 0 to 7, the flags in 8 to 12, and the temporaries in those from 13 on. Err where memory runs out.
 #[tactic(auto, using(crate::proofs::Growing::choose_blocks_more))]
-pub fn choose(alloc: Global, unit: &Unit) -> Result<VCode, AllocError>
-    requires form { IsInForm unit.now }
-    requires lowered { unit.now.lowered ≡ true }
-    requires temps { UnitHasNames unit.now }
-    ensures blocks { IfOk result (λ code. code ≡ choose_blocks unit.now.whole) }
+fn choose_blocks(alloc: Global, unit: &[Block]) -> Result<VCode, AllocError>
+    requires { All BlockHasNames unit.now }
+    ensures { IfOk result (λ code. code ≡ choose_blocks unit.now) }
 {
     let mut blocks = Vec::new(alloc);
-    for block in unit.whole.as_slice() {
+    for block in unit {
         blocks.push(choose_block(alloc, block)?)?;
     }
     Ok(VCode::new(blocks))
+}
+
+/// The named code of a lowered unit: a block for each of its blocks, with the same number and the same old address. The registers
+/// live in the names 0 to 7, the flags in 8 to 12, and the temporaries in those from 13 on. By turns it does what the unit does; it
+/// ends outside where the unit stops. Err where memory runs out.
+#[tactic(auto, using(crate::proofs::Chosen::of_blocks))]
+pub fn choose(alloc: Global, unit: &Unit) -> Result<VCode, AllocError>
+    requires form { IsInForm unit.now }
+    requires shape { IsWellShaped unit.now }
+    requires lowered { unit.now.lowered ≡ true }
+    requires temps { UnitHasNames unit.now }
+    ensures blocks { IfOk result (λ code. code ≡ choose_blocks unit.now.whole) }
+    ensures chooses { IfOk result (Chooses unit.now) }
+{
+    chosen_law();
+    choose_blocks(alloc, unit.whole.as_slice())
 }

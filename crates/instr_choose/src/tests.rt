@@ -36,7 +36,7 @@ fn small_unit(alloc: Global) -> Result<Unit, AllocError>
 
 // mov name 3, name 8; add name 3, 5; nop
 #[test]
-#[tactic(auto, using(crate::proofs::SmallUnits::small_in_form, crate::proofs::SmallUnits::small_has_names, crate::proofs::SmallUnits::small_is_lowered))]
+#[tactic(auto, using(crate::proofs::SmallUnits::small_in_form, crate::proofs::SmallUnits::small_is_well_shaped, crate::proofs::SmallUnits::small_has_names, crate::proofs::SmallUnits::small_is_lowered))]
 fn chooses_a_sum(rt: HostRuntime) -> Result<(), Fail> {
     let unit = small_unit(rt.alloc())?;
     let code = choose(rt.alloc(), &unit)?;

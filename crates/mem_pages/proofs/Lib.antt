@@ -13,3 +13,4 @@ pub mod StoredWord
 pub mod StoredThere
 pub mod LentThere
 pub mod LentPages
+pub mod Unmapped

@@ -116,6 +116,17 @@ impl Directory {
         }
     }
 
+    /// The page with a number, also one past 2^32.
+    #[tactic(auto, unfolding(crate::specs::Directory::page_at), using(crate::proofs::Tables::pages_of_is))]
+    pub fn any_page(&self, number: u64) -> Option<&Page>
+        ensures { option_copied result ≡ page_at self.now number }
+    {
+        match self.table((number / 1024) as usize) {
+            Some(table) => table.page((number % 1024) as usize),
+            None => None,
+        }
+    }
+
     /// The page with a number, to be changed.
     #[inline(always)]
     pub fn page_mut(&mut self, number: u32) -> Option<&mut Page>

@@ -71,6 +71,14 @@ impl Pages {
         self.directory.byte(at, at < self.lowest)
     }
 
+    /// The byte of a place, where it is mapped, also past 2^32, where `add_region` maps none.
+    #[tactic(auto, unfolding(crate::specs::Contents::memory_in, memory::specs::Memory::forget_below))]
+    pub fn any_byte(&self, at: u64) -> Option<Byte>
+        ensures { result ≡ option_map (λ (p : Place). p.byte) (memory_in self.now at) }
+    {
+        self.directory.any_byte(at, at < self.lowest as u64)
+    }
+
     /// The byte at an address.
     pub fn read(&self, at: u32) -> Result<Byte, PageFault>
         ensures { result ≡ byte_read (memory_in self.now at) }
@@ -212,6 +220,20 @@ impl Pages {
                 Ok(())
             }
         }
+    }
+
+    /// Makes the byte of a place another, where it is mapped, also where it can't be written; else nothing changes.
+    pub fn replace(&mut self, at: u32, byte: Byte) -> Result<(), AllocError>
+        ensures replaced { OnOk result (memory_in self.new ≡ spec.put at byte (memory_in self.old)) }
+        ensures same { OnErr result (SameMemory self.old self.new) }
+        ensures keeps { KeepsPages self.old self.new }
+    {
+        if self.writable(at).is_none() {
+            return Ok(());
+        }
+        self.keep_page(at)?;
+        self.put(at, byte);
+        Ok(())
     }
 
     /// Makes the bytes of the stack from `start` up to but not with `end` unspecified. It takes no memory.

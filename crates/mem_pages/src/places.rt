@@ -41,6 +41,16 @@ impl Directory {
         }
     }
 
+    /// The same at any address, also past 2^32.
+    pub fn any_byte(&self, at: u64, hidden: bool) -> Option<Byte>
+        ensures { result ≡ seen (shown hidden (contents self.now at)) }
+    {
+        match self.any_page(at / PAGE as u64) {
+            Some(page) => page.byte((at % PAGE as u64) as u32, hidden),
+            None => None,
+        }
+    }
+
     /// The word of some bytes of a page, where they are read as they are kept; on the stack not where they are hidden.
     #[inline(always)]
     pub fn word(&self, at: u32, size: u8, hidden: bool) -> Option<Word>

@@ -21,6 +21,8 @@ fn a_region(rt: HostRuntime) -> Result<(), Fail> {
     pages.add_region(4000, 9000, true, Byte::Known(7))?;
     assert_eq!(rt; pages.read(8999), Ok(Byte::Known(7)));
     assert_eq!(rt; pages.read(9000), Err(PageFault::NotMapped));
+    assert_eq!(rt; pages.any_byte(8999), Some(Byte::Known(7)));
+    assert_eq!(rt; pages.any_byte(4_294_976_295), None);
     pages.write(4095, Byte::Known(1)).ok().ok_or("write")?;
     pages
         .store(4094, 4, word_of(0x0403_0201))
@@ -29,6 +31,10 @@ fn a_region(rt: HostRuntime) -> Result<(), Fail> {
     assert_eq!(rt; pages.read(4095), Ok(Byte::Known(2)));
     let loaded = pages.load(4094, 4).ok_or("load")?;
     assert_eq!(rt; known(loaded), Some(0x0403_0201));
+    pages.replace(8001, Byte::Unspecified)?;
+    assert_eq!(rt; pages.read(8001), Ok(Byte::Unspecified));
+    pages.replace(9000, Byte::Known(3))?;
+    assert_eq!(rt; pages.read(9000), Err(PageFault::NotMapped));
     pages.keep(8000, 200)?;
     pages.fill(8190, &[5, 6, 8]).ok().ok_or("fill")?;
     let mut copied = [0; 3];

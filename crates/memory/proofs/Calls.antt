@@ -1,5 +1,6 @@
 -- The laws of system calls.
 use Rattle.std.proofs.Common.{◌≡◌, ℕ, zero, suc, ◌+◌, ◌<◌, ◌≤◌, ◌==◌, ◌&&◌, ◌||◌, Bool, true, false, cond, leb, min, List, [], ◌∷◌, length, map, take, drop, All, Option, Some, None, refl, ◌∙◌, ap, arith}
+use Rattle.std.proofs.lemmas.List.{length-map, length-take}
 use Rattle.std.proofs.lemmas.List.Elements.{All-nil, All-cons, All-head, All-tail, All-take, All-drop}
 use Rattle.outside.specs.declared.answer.Answer.{Answer}
 use Rattle.outside.specs.declared.answer.Answer.TheVariants.{Take, Fail}
@@ -9,7 +10,7 @@ use Rattle.x86_values.specs.declared.byte.Byte.TheVariants.{Known}
 use Rattle.x86_values.specs.Words.{IsByte, known, known_byte, all_known}
 use Rattle.memory.specs.Memory.{Memory, Stored, Load, Store, bytes_at, SameIn}
 use Rattle.memory.specs.SystemCall.{Request, Called, Ends, error, EBADF, EFAULT, passes, Plan, Refused, Stops, Asks, read_plan, asks_known, write_plan, after_answer, read_by, write_by, reads, writes, read_call, write_call, exit_call, transfer_call, call_by, system_call}
-use Rattle.memory.specs.CallLaws.{SameBuffer, CallByBuffer, SameInIsBuffer, IsPlainCall, CallsArePlain, ShowsOneEvent, CallsShowOneEvent, StoresBytes, CallIsKept, CallsKeepEnvironment, LeavesInput, CallsLeaveInput}
+use Rattle.memory.specs.CallLaws.{SameBuffer, CallByBuffer, SameInIsBuffer, IsPlainCall, CallsArePlain, ShowsOneEvent, CallsShowOneEvent, StoresBytes, CallIsKept, CallsKeepEnvironment, LeavesInput, CallsLeaveInput, IsInBuffer, StoresInBuffer, CallsStoreInBuffer}
 use Rattle.memory.proofs.Memories.{allows_in_same, bytes_in_same}
 
 fewer : (at count k : ℕ) (m n : Memory) → k ≤ count → SameIn at count m n → SameIn at k m n
@@ -215,3 +216,73 @@ leave_input q m left = outcome_holds (LeavesInput left.input) left (record {
   write_refused = λ fd r. refl;
   written = λ fd bytes x e. write_leaves fd bytes x left;
 }) q m
+
+-- ---- the buffer
+module _ (q : Request) (m : Memory) (left : Environment) where
+  no_store : All (IsInBuffer q m) []
+  no_store = All-nil (IsInBuffer q m)
+
+  module _ (fd at count : ℕ) (at_is : known q.at ≡ Some at) (count_is : known q.count ≡ Some count) where
+    length_of : (k : ℕ) → length (map Known (take (min k (min count cap)) left.input)) ≤ count
+    length_of k =
+        let mapped = length-map (take (min k (min count cap)) left.input) Known in
+        let taken = length-take (min k (min count cap)) left.input in
+        omega arith
+
+    read_in : (x : Answer) → passes Store m at count ≡ true → StoresInBuffer q m (read_by x fd at (min count cap) left)
+    read_in (Take k) passed = All-cons (IsInBuffer q m) _ [] (record { count = count; at = at_is; counted = count_is; within = length_of k; passed = passed }) no_store
+    read_in (Fail e) passed = no_store
+
+    reads_in : (is_input is_empty can : Bool) → (can ≡ true → passes Store m at count ≡ true)
+        → StoresInBuffer q m (reads (cond is_input (cond is_empty (Refused 0) (cond can (Asks (min count cap)) (Refused (error EFAULT)))) (Refused (error EBADF))) fd at left)
+    reads_in false is_empty can passed = no_store
+    reads_in true true can passed = no_store
+    reads_in true false false passed = no_store
+    reads_in true false true passed = read_in (next_answer left.answers) (passed refl)
+
+    read_call_in : StoresInBuffer q m (read_call fd at count m left)
+    unfolding read_call
+    read_call_in = reads_in (fd == 0) (count == 0) (passes Store m at count) (λ p. p)
+
+  write_in : (fd : ℕ) (bytes : List ℕ) (x : Answer) → StoresInBuffer q m (write_by x fd bytes left)
+  write_in fd bytes (Take k) = no_store
+  write_in fd bytes (Fail e) = no_store
+
+  writes_in : (p : Plan (List ℕ)) (fd : ℕ) → StoresInBuffer q m (writes p fd left)
+  writes_in (Refused r) fd = no_store
+  writes_in Stops fd = tt
+  writes_in (Asks bytes) fd = write_in fd bytes (next_answer left.answers)
+
+  write_call_in : (fd at count : ℕ) → StoresInBuffer q m (write_call fd at count m left)
+  unfolding write_call
+  write_call_in fd at count = writes_in (write_plan m fd at count) fd
+
+  read_transfer_in : (fd at count : Option ℕ) → known q.at ≡ at → known q.count ≡ count → StoresInBuffer q m (transfer_call read_call fd at count m left)
+  read_transfer_in (Some fd) (Some at) (Some count) at_is count_is = read_call_in fd at count at_is count_is
+  read_transfer_in (Some fd) (Some at) None at_is count_is = tt
+  read_transfer_in (Some fd) None count at_is count_is = tt
+  read_transfer_in None at count at_is count_is = tt
+
+  write_transfer_in : (fd at count : Option ℕ) → StoresInBuffer q m (transfer_call write_call fd at count m left)
+  write_transfer_in (Some fd) (Some at) (Some count) = write_call_in fd at count
+  write_transfer_in (Some fd) (Some at) None = tt
+  write_transfer_in (Some fd) None count = tt
+  write_transfer_in None at count = tt
+
+  exit_in : (status : Option ℕ) → StoresInBuffer q m (exit_call status)
+  exit_in None = tt
+  exit_in (Some status) = tt
+
+  numbered_in : (n : ℕ) (is_exit is_read is_write : Bool) → StoresInBuffer q m (cond is_exit (exit_call (known_byte q.fd.b0)) (cond is_read (transfer_call read_call (known q.fd) (known q.at) (known q.count) m left) (cond is_write (transfer_call write_call (known q.fd) (known q.at) (known q.count) m left) (Ends (OtherCall n)))))
+  numbered_in n true is_read is_write = exit_in (known_byte q.fd.b0)
+  numbered_in n false true is_write = read_transfer_in (known q.fd) (known q.at) (known q.count) refl refl
+  numbered_in n false false true = write_transfer_in (known q.fd) (known q.at) (known q.count)
+  numbered_in n false false false = tt
+
+  call_in : (n : Option ℕ) → StoresInBuffer q m (call_by n q m left)
+  call_in None = tt
+  call_in (Some n) = numbered_in n (n == 1) (n == 3) (n == 4)
+
+pub store_in_buffer : CallsStoreInBuffer
+unfolding system_call
+store_in_buffer q m left = call_in q m left (known q.number)

@@ -61,6 +61,21 @@ LeavesInput input (Gives ls result stores left) = left.input ≡ input_left inpu
 abbrev pub CallsLeaveInput : Type 0
 CallsLeaveInput = (q : Request) (m : Memory) (left : Environment) → LeavesInput left.input (system_call q m left)
 
+-- what a call stores lies in its buffer, which can be written
+pub record IsInBuffer (q : Request) (m : Memory) (s : Stored) : Type 0 where
+  pub count : ℕ
+  pub at : known q.at ≡ Some s.at
+  pub counted : known q.count ≡ Some count
+  pub within : length s.bytes ≤ count
+  pub passed : passes Store m s.at count ≡ true
+
+abbrev pub StoresInBuffer : Request → Memory → Called → Type 0
+StoresInBuffer q m (Ends e) = Unit {0}
+StoresInBuffer q m (Gives ls result stores left) = All (IsInBuffer q m) stores
+
+abbrev pub CallsStoreInBuffer : Type 0
+CallsStoreInBuffer = (q : Request) (m : Memory) (left : Environment) → StoresInBuffer q m (system_call q m left)
+
 -- the laws of system calls
 pub record CallLaws : Type 0 where
   pub by_buffer : CallByBuffer
@@ -69,3 +84,4 @@ pub record CallLaws : Type 0 where
   pub show_one_event : CallsShowOneEvent
   pub keep_environment : CallsKeepEnvironment
   pub leave_input : CallsLeaveInput
+  pub store_in_buffer : CallsStoreInBuffer

@@ -24,8 +24,8 @@ pub fn memory_laws()
     ensures { MemoryLaws }
 {}
 
-/// Does nothing: its clause is the laws of system calls. A call looks at no more of memory than its buffer, ends with an end
-/// of its own, begins no turn, stores bytes of the input, and leaves an environment.
+/// Does nothing: its clause is the laws of system calls. A call looks at no more of memory than its buffer, and stores there alone,
+/// ends with an end of its own, begins no turn, stores bytes of the input, and leaves an environment.
 pub fn call_laws()
     ensures { CallLaws }
 {}

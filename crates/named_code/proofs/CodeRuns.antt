@@ -2,7 +2,7 @@
 use Rattle.std.proofs.Common.{◌≡◌, ℕ, List, true, Some, arith}
 use Rattle.outside.specs.Environment.{Environment}
 use Rattle.traces.specs.Trace.{End, Grows}
-use Rattle.traces.specs.Weight.{PacedBy, OneEvent}
+use Rattle.traces.specs.Weight.{PacedBy, Paced, OneEvent}
 use Rattle.traces.specs.Steps.{clock_of}
 use Rattle.traces.specs.RunLaws.{RunLaws}
 use Rattle.traces.specs.MoveLaws.{MoveLaws}
@@ -15,7 +15,7 @@ use Rattle.named_code.specs.CodeRun.{first_position, blocks_run}
 use Rattle.named_code.specs.Weight.{step_cost, BoundsCode}
 use Rattle.named_code.specs.CodeRunLaws.{OncePosition, CodeRunLaws}
 use Rattle.named_code.proofs.CodeMoves.{next_small}
-use Rattle.named_code.proofs.Weighing.{left_in, next_paced, kept}
+use Rattle.named_code.proofs.Weighing.{left_in, next_paced, kept, next_in_steps}
 
 module _ (calls : CallLaws) (runs : RunLaws CodePosition) (moves : MoveLaws CodePosition) (invariants : InvariantLaws CodePosition OncePosition) where
   module _ (marks : Marks) (code : List CodeBlock) (m : Memory) (entry esp0 : ℕ) (stack : List ℕ) (left : Environment) where
@@ -40,6 +40,12 @@ module _ (calls : CallLaws) (runs : RunLaws CodePosition) (moves : MoveLaws Code
         invariants.paced_by_costs (code_next marks code) (λ (i : OncePosition). i.position) (kept calls marks cost rest w code bounds) (step_cost cost code) w 0 (left_in calls marks cost rest w)
         (λ i. next_paced calls marks cost rest w code bounds i.position i.once) (record { position = first; once = tt }) (omega arith)
 
+    in_steps : (rest : ℕ → ℕ) (w : ℕ) → BoundsCode marks (λ x. 1) rest w code → Paced w 0 (blocks_run marks code m entry esp0 stack left)
+    unfolding blocks_run
+    in_steps rest w bounds =
+        invariants.paced_by_moves (code_next marks code) (λ (i : OncePosition). i.position) (kept calls marks (λ x. 1) rest w code bounds) w 0 (left_in calls marks (λ x. 1) rest w)
+        (λ i. next_in_steps calls marks rest w code bounds i.position i.once) (record { position = first; once = tt }) (omega arith)
+
   pub code_laws : CodeRunLaws
   code_laws = record {
     grow = grow;
@@ -47,4 +53,5 @@ module _ (calls : CallLaws) (runs : RunLaws CodePosition) (moves : MoveLaws Code
     one_event = one_event;
     own_end = own_end;
     paced = λ marks cost rest w code m entry esp0 stack left bounds. paced marks code m entry esp0 stack left cost rest w bounds;
+    paced_in_steps = λ marks rest w code m entry esp0 stack left bounds. in_steps marks code m entry esp0 stack left rest w bounds;
   }

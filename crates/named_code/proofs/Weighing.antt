@@ -185,3 +185,34 @@ module _ (calls : CallLaws) (marks : Marks) (cost : Item → ℕ) (rest : ℕ �
 
     pub kept : IsKept (λ (i : OncePosition). i.position) (code_next marks code)
     kept i = to_once (code_next marks code i.position) (next_once i.position i.once)
+
+-- ---- where each item costs one, so does each step that goes on
+module _ (calls : CallLaws) (marks : Marks) (rest : ℕ → ℕ) (w : ℕ) (code : List CodeBlock) (bounds : BoundsCode marks (λ x. 1) rest w code) where
+  abbrev one : Item → ℕ
+  one x = 1
+
+  abbrev Costing : ℕ → ℕ → Move CodePosition → Type 0
+  Costing l c m = PacedMove w (left_in calls marks one rest w) l c m
+
+  items_one : (l : ℕ) (xs : List Item) (s : CodeState) → Costing l (first_cost one xs) (goes_on xs s) → Costing l 1 (goes_on xs s)
+  items_one l [] s h = h
+  items_one l (x ∷ xs) s h = h
+
+  block_one : (l a : ℕ) (z : Bool) (xs : List Item) (s : CodeState) → Costing l (first_cost one xs) (cond z (goes_on xs s) (marked a (goes_on xs s))) → Costing l 1 (cond z (goes_on xs s) (marked a (goes_on xs s)))
+  block_one l a true [] s h = h
+  block_one l a false [] s h = h
+  block_one l a true (x ∷ xs) s h = h
+  block_one l a false (x ∷ xs) s h = h
+
+  begun_one : (l : ℕ) (o : Option CodeBlock) (s : CodeState) → Costing l (entry_cost one o) (begun marks o s) → Costing l 1 (begun marks o s)
+  begun_one l None s h = h
+  begun_one l (Some b) s h = block_one l (marks b.number) (marks b.number == 0) b.items s h
+
+  point_one : (l : ℕ) (p : CodePoint) (s : CodeState) → Costing l (cost_at one code p) (move_at marks code p s) → Costing l 1 (move_at marks code p s)
+  point_one l (AtNumber n) s h = begun_one l (block_of_number n code) s h
+  point_one l (AtOld a) s h = begun_one l (block_at a code) s h
+  point_one l (Inside xs) s h = items_one l xs s h
+
+  pub next_in_steps : (p : CodePosition) → IsOncePoint p.point → Costing (left_in calls marks one rest w p) 1 (code_next marks code p)
+  unfolding code_next
+  next_in_steps p h = point_one _ p.point p.state (next_paced calls marks one rest w code bounds p h)

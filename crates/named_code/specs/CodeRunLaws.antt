@@ -4,7 +4,7 @@ use Rattle.outside.specs.Environment.{Environment}
 use Rattle.traces.specs.Trace.{End, Grows}
 use Rattle.traces.specs.Moves.{OneEventStep}
 use Rattle.traces.specs.Steps.{clock_of}
-use Rattle.traces.specs.Weight.{PacedBy, OneEvent}
+use Rattle.traces.specs.Weight.{PacedBy, Paced, OneEvent}
 use Rattle.memory.specs.Memory.{Memory, with_stack}
 use Rattle.memory.specs.CallLaws.{is_own_end}
 use Rattle.named_code.specs.Items.{Item, CodeBlock}
@@ -33,3 +33,5 @@ pub record CodeRunLaws : Type 0 where
   -- turns cost what is read off the text
   pub paced : (marks : Marks) (cost : Item → ℕ) (rest : ℕ → ℕ) (w : ℕ) (code : List CodeBlock) (m : Memory) (entry esp0 : ℕ) (stack : List ℕ) (left : Environment) → BoundsCode marks cost rest w code
       → PacedBy (clock_of (code_next marks code) (step_cost cost code) (first_position (with_stack esp0 stack m) entry esp0 left)) w 0 (blocks_run marks code m entry esp0 stack left)
+  -- so they have that weight in steps where each instruction counts as one
+  pub paced_in_steps : (marks : Marks) (rest : ℕ → ℕ) (w : ℕ) (code : List CodeBlock) (m : Memory) (entry esp0 : ℕ) (stack : List ℕ) (left : Environment) → BoundsCode marks (λ x. 1) rest w code → Paced w 0 (blocks_run marks code m entry esp0 stack left)

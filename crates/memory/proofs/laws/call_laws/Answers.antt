@@ -9,4 +9,5 @@ returns c = record {
   show_one_event = calls.show_one_event;
   keep_environment = calls.keep_environment;
   leave_input = calls.leave_input;
+  store_in_buffer = calls.store_in_buffer;
 }

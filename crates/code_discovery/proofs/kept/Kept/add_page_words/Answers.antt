@@ -1,5 +1,6 @@
 use Rattle.std.proofs.Common.{◌+◌, ◌*◌, ◌≤◌, List, below_more, sym, ◌∙◌, subst}
 use Rattle.plan_types.specs.declared.table.Table.{Table}
+use Rattle.code_discovery.specs.Extents.{TellsOf}
 use Rattle.code_discovery.specs.Whole.{TellsApart}
 use Rattle.code_discovery.specs.Words.{IsStoredKept}
 use Rattle.code_discovery.proofs.Growth.{more_then}
@@ -14,6 +15,9 @@ add_near_word-requires-clause-stored c = c.loop-index.invariant.more.stored ∙ 
 
 pub add_near_word-requires-clause-apart : goal.add_near_word-requires-clause-apart
 add_near_word-requires-clause-apart c = subst (λ (ts : List Table). TellsApart c.args.scan.now ts) (sym c.loop-index.invariant.tables) c.requires.apart
+
+pub add_near_word-requires-clause-extents : goal.add_near_word-requires-clause-extents
+add_near_word-requires-clause-extents c = subst (λ (ts : List Table). TellsOf ts c.args.extents.now) (sym c.loop-index.invariant.tables) c.requires.extents
 
 pub loop-index-preserved : goal.loop-index-preserved
 loop-index-preserved c = record {

@@ -7,6 +7,7 @@ use Rattle.image.specs.Wanted.{FitsWideRoom}
 use Rattle.plan_types.specs.declared.table.Table.{Table}
 use Rattle.code_discovery.specs.Kept.{FoundSoFar, IsSoundSoFar}
 use Rattle.code_discovery.specs.Settled.{IsSettling}
+use Rattle.code_discovery.specs.Extents.{TellsOf}
 use Rattle.code_discovery.specs.Whole.{TellsApart}
 use Rattle.code_discovery.specs.Words.{AreStoredKept}
 use Rattle.code_discovery.proofs.Members.{none_in}
@@ -26,6 +27,9 @@ pub add_words-requires-clause-apart : goal.add_words-requires-clause-apart
 add_words-requires-clause-apart c =
     subst (λ (ts : List Table). TellsApart c.args.scan.now ts) (sym (c.loop-segment.invariant.tables ∙ ap (λ (k : FoundSoFar). k.tables) c.give_stored.ensures))
     (tells_apart c.args.scan.now c.args.self.now c.run_laws.ensures c.requires.sound c.requires.closed c.requires.entry)
+
+pub add_words-requires-clause-extents : goal.add_words-requires-clause-extents
+add_words-requires-clause-extents c = subst (λ (ts : List Table). TellsOf ts c.in_ok-extents.extents) (sym (c.loop-segment.invariant.tables ∙ ap (λ (k : FoundSoFar). k.tables) c.give_stored.ensures)) c.in_ok-extents.ensures
 
 pub loop-segment-preserved : goal.loop-segment-preserved
 loop-segment-preserved c = record {

@@ -1,6 +1,7 @@
 use Rattle.std.proofs.Common.{◌+◌, ◌*◌, ◌/◌, ◌≤◌, List, below_more, sym, ◌∙◌, subst}
 use Rattle.image.specs.declared.image.Segment.{Segment}
 use Rattle.plan_types.specs.declared.table.Table.{Table}
+use Rattle.code_discovery.specs.Extents.{TellsOf}
 use Rattle.code_discovery.specs.Whole.{TellsApart}
 use Rattle.code_discovery.specs.Words.{IsPageKept}
 use Rattle.code_discovery.proofs.Growth.{more_then}
@@ -15,6 +16,9 @@ add_page-requires-clause-stored c = c.loop-page.invariant.more.stored ∙ c.requ
 
 pub add_page-requires-clause-apart : goal.add_page-requires-clause-apart
 add_page-requires-clause-apart c = subst (λ (ts : List Table). TellsApart c.args.scan.now ts) (sym c.loop-page.invariant.tables) c.requires.apart
+
+pub add_page-requires-clause-extents : goal.add_page-requires-clause-extents
+add_page-requires-clause-extents c = subst (λ (ts : List Table). TellsOf ts c.args.extents.now) (sym c.loop-page.invariant.tables) c.requires.extents
 
 pub loop-page-preserved : goal.loop-page-preserved
 loop-page-preserved c = record {

@@ -1,0 +1,5 @@
+pub mod Places
+pub mod Shapes
+pub mod SameTransfers
+pub mod Renamed
+pub mod Effects

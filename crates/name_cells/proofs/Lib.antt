@@ -1,0 +1,12 @@
+pub mod Growing
+pub mod FewItems
+pub mod SmallCodes
+pub mod PairedPlaces
+pub mod ByteFields
+pub mod OwnItems
+pub mod CellMoves
+pub mod MovedNames
+pub mod OwnSteps
+pub mod Falling
+pub mod ItemsRun
+pub mod WholeInstrs

@@ -1,0 +1,7 @@
+use Rattle.std.proofs.Common.{arith}
+use Rattle.name_cells.specs.Placing.{fetch_slot}
+use Rattle.name_cells.proofs.Growing.{flat_more_behind}
+use Rattle.name_cells.proofs.items.push_fetches.Goals as goal
+
+pub loop-slot-preserved : goal.loop-slot-preserved
+loop-slot-preserved c = flat_more_behind (fetch_slot c.args.byte c.args.last) _ c.args.slots.now c.loop-slot.slot-index _ c.loop-slot.items.items _ (omega arith) c.loop-slot.invariant c.in_ok-push_fetch.ensures

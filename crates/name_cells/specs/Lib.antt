@@ -1,0 +1,11 @@
+pub mod Cells
+pub mod Renaming
+pub mod Holders
+pub mod Placing
+pub mod CanBePlaced
+pub mod Pairs
+pub mod MovedNames
+pub mod OwnSteps
+pub mod Living
+pub mod CellLaws
+pub mod SmallCode

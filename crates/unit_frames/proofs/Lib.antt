@@ -1,0 +1,16 @@
+pub mod Reaching
+pub mod Looking
+pub mod Putting
+pub mod Covering
+pub mod Accesses
+pub mod Storing
+pub mod FixedPlaces
+pub mod Outermost
+pub mod Fresh
+pub mod NewFrames
+pub mod Deep
+pub mod LocalWords
+pub mod Returns
+pub mod Forgetting
+pub mod CopyingBack
+pub mod Calls
