@@ -1,5 +1,5 @@
 // Words, calls of the host that fail, lines and statuses. What is expected is written by hand, from this project's own rules.
-use crate::files::{ADD_TWO, EXIT_SEVEN, NEW_EXIT_SEVEN, file_of, new_file_of};
+use crate::files::{NEW_EXIT_SEVEN, new_file_of};
 use crate::hosts::{
     Call, HOST_FAULT, Left, NEW_MAP, NOT_YET, OLD_MAP, OLD_OUT, REWRITE, USAGE, expect,
     nothing_stored,
@@ -7,6 +7,7 @@ use crate::hosts::{
 use elf_image::Refusal;
 use std::test::Fail;
 use sw_top::{End, status};
+use worked_programs::{ADD_TWO, EXIT_SEVEN, file_of};
 
 #[test]
 fn reads_its_words(rt: HostRuntime) -> Result<(), Fail> {

@@ -1,13 +1,14 @@
 // Calls over a host in memory, and what they leave there.
 ghost use Rattle.std.specs.Prelude.{◌≡◌, ◌≤◌, length};
 
-use crate::files::{file_of, new_file_of};
+use crate::files::new_file_of;
 use elf_image::Refusal;
 use std::alloc::{AllocError, Global};
 use std::process::Abort;
 use std::test::Fail;
 use sw_host::MemoryHost;
 use sw_top::{End, sw};
+use worked_programs::file_of;
 
 /// What stands in OUT before a call.
 pub const OLD_OUT: &[u8] = b"an old OUT";

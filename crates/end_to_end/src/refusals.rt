@@ -1,11 +1,12 @@
 // Files that are refused or too long. What is expected is written by hand, from the gABI ("ELF Header", "Program Header") and
 // this project's own rules.
-use crate::files::{EXIT_SEVEN, NEW_EXIT_SEVEN, file_of};
+use crate::files::NEW_EXIT_SEVEN;
 use crate::hosts::{REWRITE, TOO_LONG, end_of, expect_code, expect_refusal, line_of};
 use elf_image::Refusal;
 use std::test::Fail;
 use sw_host::MemoryHost;
 use sw_top::{End, status};
+use worked_programs::{EXIT_SEVEN, file_of};
 
 // Sizes and first bytes of files that aren't plain: the first cause of a refusal is told.
 #[test]

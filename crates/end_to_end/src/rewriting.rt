@@ -1,10 +1,11 @@
 // Files that are rewritten, or aren't taken yet, by their code. What is expected is written by hand, from Intel SDM volume 2
 // ("MOV", "JMP", "INT n", "HLT") and this project's own rules.
-use crate::files::{ADD_TWO, EXIT_SEVEN, NEW_EXIT_SEVEN, file_of, moves_then};
+use crate::files::{NEW_EXIT_SEVEN, moves_then};
 use crate::hosts::{NEW_MAP, REWRITE, end_of, expect_answer, expect_code, line_of};
 use std::test::Fail;
 use sw_host::MemoryHost;
 use sw_top::{End, status};
+use worked_programs::{ADD_TWO, EXIT_SEVEN, file_of};
 
 #[test]
 fn rewrites_a_file(rt: HostRuntime) -> Result<(), Fail> {
