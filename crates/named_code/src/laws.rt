@@ -1,4 +1,5 @@
 // The laws of the definitions.
+ghost use Rattle.named_code.specs.ApartRunLaws.{ApartRunLaws};
 ghost use Rattle.named_code.specs.CodeRunLaws.{CodeRunLaws};
 
 use memory::call_laws;
@@ -28,6 +29,17 @@ impl Family for OncePositions {
 /// event, and its turns cost what is read off its text.
 pub fn code_laws()
     ensures { CodeRunLaws }
+{
+    run_laws::<CodeMeaning>();
+    move_laws::<CodeMeaning>();
+    invariant_laws::<CodeMeaning, OncePositions>();
+    call_laws();
+}
+
+/// Its clause is the laws of code whose accesses keep apart: its runs are those of the code up to an access that isn't apart, grow,
+/// show their events one by one and end with no stop and no guard event, and their turns cost what is read off the text.
+pub fn apart_laws()
+    ensures { ApartRunLaws }
 {
     run_laws::<CodeMeaning>();
     move_laws::<CodeMeaning>();
