@@ -53,7 +53,7 @@ module _ (marks : Marks) (code : List CodeBlock) where
   one_turn_at (AtOld a) = one_turn_found marks (block_at a code)
   one_turn_at (Inside items) = tt
 
-  no_event_at : (p : CodePoint) → events (turn_at marks code p) ≡ []
+  pub no_event_at : (p : CodePoint) → events (turn_at marks code p) ≡ []
   no_event_at (AtNumber n) = no_event_found marks (block_of_number n code)
   no_event_at (AtOld a) = no_event_found marks (block_at a code)
   no_event_at (Inside items) = refl

@@ -17,7 +17,7 @@ use Rattle.named_code.specs.Weight.{step_cost, BoundsCode}
 use Rattle.named_code.specs.CodeRunLaws.{OncePosition}
 use Rattle.named_code.specs.ApartRunLaws.{ApartRunLaws}
 use Rattle.named_code.proofs.Weighing.{left_in}
-use Rattle.named_code.proofs.ApartMoves.{IsStepOf, is_apart_move, is_apart_end, reached_step, apart_event, apart_own, apart_paced, apart_in_steps, apart_kept}
+use Rattle.named_code.proofs.ApartMoves.{IsStepOf, no_event_at, is_apart_move, is_apart_end, reached_step, apart_event, apart_own, apart_paced, apart_in_steps, apart_kept}
 
 module _ (calls : CallLaws) (runs : RunLaws CodePosition) (moves : MoveLaws CodePosition) (invariants : InvariantLaws CodePosition OncePosition) where
   -- ---- up to an access that isn't apart the same is seen
@@ -123,6 +123,7 @@ module _ (calls : CallLaws) (runs : RunLaws CodePosition) (moves : MoveLaws Code
   pub apart_laws : ApartRunLaws
   apart_laws = record {
     same_up_to = λ marks code p n. same_up_to marks code n p;
+    turn_is_quiet = no_event_at;
     grow = grow;
     move_event = λ marks code p. apart_event marks code calls p;
     one_event = one_event;

@@ -1,21 +1,23 @@
 -- The laws of code whose accesses keep apart.
-use Rattle.std.specs.Prelude.{◌≡◌, ℕ, true, List, Some}
+use Rattle.std.specs.Prelude.{◌≡◌, ℕ, true, List, [], Some}
 use Rattle.outside.specs.Environment.{Environment}
-use Rattle.traces.specs.Trace.{End, Grows}
+use Rattle.traces.specs.Trace.{End, Grows, events}
 use Rattle.traces.specs.Moves.{OneEventStep}
 use Rattle.traces.specs.Steps.{clock_of}
 use Rattle.traces.specs.Weight.{PacedBy, Paced, OneEvent}
 use Rattle.memory.specs.Memory.{Memory, with_stack}
 use Rattle.memory.specs.CallLaws.{is_own_end}
 use Rattle.named_code.specs.Items.{Item, CodeBlock}
-use Rattle.named_code.specs.Running.{CodePosition, Marks}
+use Rattle.named_code.specs.Running.{CodePoint, CodePosition, Marks}
 use Rattle.named_code.specs.CodeRun.{first_position}
-use Rattle.named_code.specs.ApartRun.{apart_next, apart_blocks_run, SameUpToAccess}
+use Rattle.named_code.specs.ApartRun.{turn_at, apart_next, apart_blocks_run, SameUpToAccess}
 use Rattle.named_code.specs.Weight.{step_cost, BoundsCode}
 
 pub record ApartRunLaws : Type 0 where
   -- it does what the code does up to an access that isn't apart
   pub same_up_to : (marks : Marks) (code : List CodeBlock) (p : CodePosition) (n : ℕ) → SameUpToAccess marks code p n
+  -- the turn of a position is no event
+  pub turn_is_quiet : (marks : Marks) (code : List CodeBlock) (p : CodePoint) → events (turn_at marks code p) ≡ []
   -- more steps show the same and more, and an end stays
   pub grow : (marks : Marks) (code : List CodeBlock) (m : Memory) (entry esp0 : ℕ) (stack : List ℕ) (left : Environment) → Grows (apart_blocks_run marks code m entry esp0 stack left)
   -- each step shows at most one event, and none where the run stands
