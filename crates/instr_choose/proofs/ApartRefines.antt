@@ -1,21 +1,18 @@
 -- The run of the code that ends at an access that isn't apart does by turns what the unit does.
-use Rattle.std.proofs.Common.{◌≡◌, ◌⊎◌, ℕ, ◌+◌, ◌-◌, ◌&&◌, true, false, List, [], ◌∷◌, ◌++◌, All, refl, sym, ap, ap₂, ◌∙◌, inl, inr, arith}
-use Rattle.std.specs.List.{list_all}
-use Rattle.std.proofs.lemmas.List.Elements.{All-head, All-tail}
+use Rattle.std.proofs.Common.{◌≡◌, ◌⊎◌, ℕ, ◌+◌, ◌-◌, true, false, List, ◌++◌, All, sym, ap, ◌∙◌, inl, inr, arith}
 use Rattle.outside.specs.Environment.{Environment, IsEnvironment}
 use Rattle.traces.specs.Trace.{Behaviour, Seen, IsPrefix, before, run}
 use Rattle.traces.specs.Agree.{outside_run}
 use Rattle.traces.specs.Turns.{RefinesByTurns}
 use Rattle.memory.specs.Memory.{Memory, HasBytes, with_stack}
-use Rattle.x86_meaning.specs.Operands.{Access}
 use Rattle.x86_meaning.specs.Run.{IsStart}
-use Rattle.private_memory.specs.PrivateArea.{IsUsual, IsApartAccess, is_apart_access}
+use Rattle.private_memory.specs.PrivateArea.{IsUsual, IsApartAccess}
 use Rattle.flag_ir.specs.Entering.{CodeUnit}
 use Rattle.flag_ir.specs.UnitRun.{unit_run}
 use Rattle.named_code.specs.Items.{CodeBlock}
 use Rattle.named_code.specs.Running.{CodePosition, code_next}
 use Rattle.named_code.specs.CodeRun.{first_position, blocks_run}
-use Rattle.named_code.specs.ApartRun.{position_accesses, turn_at, all_apart, apart_blocks_run, EndsAtAccess, SameUpToAccess}
+use Rattle.named_code.specs.ApartRun.{position_accesses, turn_at, apart_blocks_run, EndsAtAccess, SameUpToAccess}
 use Rattle.instr_choose.specs.Blocks.{choose_blocks}
 use Rattle.instr_choose.specs.Marks.{marks_of}
 use Rattle.instr_choose.specs.Apart.{UnitIsApart, HasUsedUnspecified}
@@ -27,14 +24,6 @@ use Rattle.instr_choose.proofs.ApartRuns.{stays_apart}
 use Rattle.instr_choose.proofs.EarlyEnds.{outside_grows, outside_used, EndsEarly, refines_early}
 
 module _ (laws : UnitLawsBelow) where
-  all_pass : (m : Memory) (xs : List Access) → All (IsApartAccess m) xs → list_all (is_apart_access m) xs ≡ true
-  all_pass m [] h = refl
-  all_pass m (a ∷ more) h = ap₂ (λ b c. b && c) (laws.area.apart_passes m a (All-head (IsApartAccess m) a more h)) (all_pass m more (All-tail (IsApartAccess m) a more h))
-
-  pub are_all_apart : (code : List CodeBlock) (p : CodePosition) → All (IsApartAccess p.state.memory) (position_accesses code p) → all_apart code p ≡ true
-  unfolding all_apart
-  are_all_apart code p h = all_pass p.state.memory (position_accesses code p) h
-
   module _ (u : CodeUnit) (asked : IsAsked u) (apart : UnitIsApart u) (m : Memory) (entry esp0 : ℕ) (stack : List ℕ) (env : Environment) (bytes : HasBytes m) (usual : IsUsual esp0 m) (start : IsStart esp0 stack) (environment : IsEnvironment env) where
     abbrev code : List CodeBlock
     code = code_blocks u.whole
@@ -56,7 +45,7 @@ module _ (laws : UnitLawsBelow) where
       where
         cases : All (IsApartAccess h.position.state.memory) (position_accesses code h.position) ⊎ HasUsedUnspecified unit (h.shown ++ turn_at (marks_of u) code h.position.point)
             → HasUsedUnspecified unit (h.shown ++ turn_at (marks_of u) code h.position.point)
-        cases (inl all) = let no : true ≡ false = sym (are_all_apart code h.position all) ∙ h.reached in absurd cc
+        cases (inl all) = let no : true ≡ false = sym (laws.apart.apart_passes code h.position all) ∙ h.reached in absurd cc
         cases (inr used) = used
 
     begins : (n : ℕ) (h : EndsAtAccess (marks_of u) code first n) → IsPrefix h.shown (plain n).trace

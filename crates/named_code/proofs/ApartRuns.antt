@@ -1,5 +1,8 @@
 -- The laws of code whose accesses keep apart.
-use Rattle.std.proofs.Common.{◌≡◌, ℕ, zero, suc, Bool, true, false, List, [], ◌++◌, Some, None, refl, sym, ap, ◌∙◌, subst, append_assoc, inl, inr, arith}
+use Rattle.std.proofs.Common.{◌≡◌, ℕ, zero, suc, ◌&&◌, Bool, true, false, List, [], ◌∷◌, ◌++◌, All, Some, None, refl, sym, ap, ap₂, ◌∙◌, subst, append_assoc, inl, inr, arith}
+use Rattle.std.specs.List.{list_all}
+use Rattle.std.proofs.lemmas.Bool.{and_parts}
+use Rattle.std.proofs.lemmas.List.Elements.{All-nil, All-cons, All-head, All-tail}
 use Rattle.outside.specs.Environment.{Environment}
 use Rattle.traces.specs.Trace.{Label, End, Unspecified, Move, Stand, Go, Halt, Grows, seen, before, run}
 use Rattle.traces.specs.Weight.{PacedBy, Paced, OneEvent}
@@ -9,15 +12,38 @@ use Rattle.traces.specs.MoveLaws.{MoveLaws}
 use Rattle.traces.specs.InvariantLaws.{InvariantLaws}
 use Rattle.memory.specs.Memory.{Memory, with_stack}
 use Rattle.memory.specs.CallLaws.{CallLaws, is_own_end}
+use Rattle.x86_meaning.specs.Operands.{Access}
+use Rattle.private_memory.specs.PrivateArea.{IsApartAccess, is_apart_access}
+use Rattle.private_memory.specs.PrivateAreaLaws.{PrivateAccessLaws}
 use Rattle.named_code.specs.Items.{Item, CodeBlock}
 use Rattle.named_code.specs.Running.{CodePosition, Marks, code_next}
 use Rattle.named_code.specs.CodeRun.{first_position}
-use Rattle.named_code.specs.ApartRun.{turn_at, all_apart, apart_next, apart_blocks_run, EndsAtAccess, SameUpToAccess}
+use Rattle.named_code.specs.ApartRun.{position_accesses, turn_at, all_apart, apart_next, apart_blocks_run, EndsAtAccess, SameUpToAccess}
 use Rattle.named_code.specs.Weight.{step_cost, BoundsCode}
 use Rattle.named_code.specs.CodeRunLaws.{OncePosition}
 use Rattle.named_code.specs.ApartRunLaws.{ApartRunLaws}
 use Rattle.named_code.proofs.Weighing.{left_in}
 use Rattle.named_code.proofs.ApartMoves.{IsStepOf, no_event_at, is_apart_move, is_apart_end, reached_step, apart_event, apart_own, apart_paced, apart_in_steps, apart_kept}
+
+-- ---- the accesses of a position pass the test exactly where each is apart
+module _ (area : PrivateAccessLaws) where
+  each_passes : (m : Memory) (xs : List Access) → All (IsApartAccess m) xs → list_all (is_apart_access m) xs ≡ true
+  each_passes m [] h = refl
+  each_passes m (a ∷ more) h = ap₂ (λ b c. b && c) (area.apart_passes m a (All-head (IsApartAccess m) a more h)) (each_passes m more (All-tail (IsApartAccess m) a more h))
+
+  passes_each : (m : Memory) (xs : List Access) → list_all (is_apart_access m) xs ≡ true → All (IsApartAccess m) xs
+  passes_each m [] h = All-nil (IsApartAccess m)
+  passes_each m (a ∷ more) h =
+      let parts = and_parts (is_apart_access m a) (list_all (is_apart_access m) more) h in
+      All-cons (IsApartAccess m) a more (area.passes_apart m a parts.0) (passes_each m more parts.1)
+
+  position_passes : (code : List CodeBlock) (p : CodePosition) → All (IsApartAccess p.state.memory) (position_accesses code p) → all_apart code p ≡ true
+  unfolding all_apart
+  position_passes code p h = each_passes p.state.memory (position_accesses code p) h
+
+  passes_position : (code : List CodeBlock) (p : CodePosition) → all_apart code p ≡ true → All (IsApartAccess p.state.memory) (position_accesses code p)
+  unfolding all_apart
+  passes_position code p h = passes_each p.state.memory (position_accesses code p) h
 
 module _ (calls : CallLaws) (runs : RunLaws CodePosition) (moves : MoveLaws CodePosition) (invariants : InvariantLaws CodePosition OncePosition) where
   -- ---- up to an access that isn't apart the same is seen
@@ -120,8 +146,10 @@ module _ (calls : CallLaws) (runs : RunLaws CodePosition) (moves : MoveLaws Code
         invariants.paced_by_moves (apart_next marks code) (λ (i : OncePosition). i.position) (apart_kept marks code calls (λ x. 1) rest w bounds) w 0 (left_in calls marks (λ x. 1) rest w)
         (λ i. apart_in_steps marks code calls rest w bounds i.position i.once) (record { position = first; once = tt }) (omega arith)
 
-  pub apart_laws : ApartRunLaws
-  apart_laws = record {
+  pub apart_laws : PrivateAccessLaws → ApartRunLaws
+  apart_laws area = record {
+    apart_passes = position_passes area;
+    passes_apart = passes_position area;
     same_up_to = λ marks code p n. same_up_to marks code n p;
     turn_is_quiet = no_event_at;
     grow = grow;

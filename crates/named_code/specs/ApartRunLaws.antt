@@ -1,5 +1,5 @@
 -- The laws of code whose accesses keep apart.
-use Rattle.std.specs.Prelude.{◌≡◌, ℕ, true, List, [], Some}
+use Rattle.std.specs.Prelude.{◌≡◌, ℕ, true, List, [], All, Some}
 use Rattle.outside.specs.Environment.{Environment}
 use Rattle.traces.specs.Trace.{End, Grows, events}
 use Rattle.traces.specs.Moves.{OneEventStep}
@@ -7,13 +7,17 @@ use Rattle.traces.specs.Steps.{clock_of}
 use Rattle.traces.specs.Weight.{PacedBy, Paced, OneEvent}
 use Rattle.memory.specs.Memory.{Memory, with_stack}
 use Rattle.memory.specs.CallLaws.{is_own_end}
+use Rattle.private_memory.specs.PrivateArea.{IsApartAccess}
 use Rattle.named_code.specs.Items.{Item, CodeBlock}
 use Rattle.named_code.specs.Running.{CodePoint, CodePosition, Marks}
 use Rattle.named_code.specs.CodeRun.{first_position}
-use Rattle.named_code.specs.ApartRun.{turn_at, apart_next, apart_blocks_run, SameUpToAccess}
+use Rattle.named_code.specs.ApartRun.{position_accesses, turn_at, all_apart, apart_next, apart_blocks_run, SameUpToAccess}
 use Rattle.named_code.specs.Weight.{step_cost, BoundsCode}
 
 pub record ApartRunLaws : Type 0 where
+  -- it goes on as the code does exactly where each access is apart
+  pub apart_passes : (code : List CodeBlock) (p : CodePosition) → All (IsApartAccess p.state.memory) (position_accesses code p) → all_apart code p ≡ true
+  pub passes_apart : (code : List CodeBlock) (p : CodePosition) → all_apart code p ≡ true → All (IsApartAccess p.state.memory) (position_accesses code p)
   -- it does what the code does up to an access that isn't apart
   pub same_up_to : (marks : Marks) (code : List CodeBlock) (p : CodePosition) (n : ℕ) → SameUpToAccess marks code p n
   -- the turn of a position is no event

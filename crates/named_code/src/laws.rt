@@ -3,6 +3,7 @@ ghost use Rattle.named_code.specs.ApartRunLaws.{ApartRunLaws};
 ghost use Rattle.named_code.specs.CodeRunLaws.{CodeRunLaws};
 
 use memory::call_laws;
+use private_memory::private_access_laws;
 use traces::{Family, States, invariant_laws, move_laws, run_laws};
 
 /// Names the positions of code over places.
@@ -45,4 +46,5 @@ pub fn apart_laws()
     move_laws::<CodeMeaning>();
     invariant_laws::<CodeMeaning, OncePositions>();
     call_laws();
+    private_access_laws();
 }
