@@ -13,6 +13,7 @@ use Rattle.instr_choose.proofs.Costing.{costs}
 use Rattle.instr_choose.proofs.Meets.{UnitLawsBelow}
 use Rattle.instr_choose.proofs.Starting.{keeps}
 use Rattle.instr_choose.proofs.ApartRuns.{stays_apart}
+use Rattle.instr_choose.proofs.ApartRefines.{keeps_apart}
 
 pub chosen : UnitLawsBelow → ChosenLaw
 chosen laws u form shape low names = record {
@@ -21,6 +22,7 @@ chosen laws u form shape low names = record {
   keeps = keeps laws u (record { form = form; shape = shape; low = low });
   costs = costs u form low;
   apart = stays_apart laws u (record { form = form; shape = shape; low = low });
+  keeps_apart = keeps_apart laws u (record { form = form; shape = shape; low = low });
 }
 
 pub of_blocks : ChosenLaw → (u : CodeUnit) (code : List VBlock) → code ≡ choose_blocks u.whole → IsInForm u → IsWellShaped u → u.lowered ≡ true → UnitHasNames u → Chooses u code

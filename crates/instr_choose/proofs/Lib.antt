@@ -28,3 +28,5 @@ pub mod QuietItems
 pub mod SafeLists
 pub mod WatchedItems
 pub mod ApartRuns
+pub mod EarlyEnds
+pub mod ApartRefines

@@ -11,6 +11,7 @@ use Rattle.traces.specs.Steps.{Goes, Reaches}
 use Rattle.traces.specs.Simulation.{Paired}
 use Rattle.traces.specs.Meeting.{OnBoth, EndBoth, SeenRefines}
 use Rattle.traces.specs.MeetingLaws.{MeetingLaws}
+use Rattle.traces.specs.TraceLaws.{TraceLaws}
 use Rattle.traces.specs.RunLaws.{RunLaws}
 use Rattle.traces.specs.MoveLaws.{MoveLaws}
 use Rattle.traces.specs.SimulationLaws.{SimulationLaws}
@@ -29,12 +30,13 @@ use Rattle.private_memory.specs.PrivateAreaLaws.{PrivateAccessLaws}
 use Rattle.named_code.specs.Items.{Item, named_item}
 use Rattle.named_code.specs.Running.{CodeState, CodePoint, AtNumber, AtOld, Inside, CodePosition, standing_at}
 use Rattle.named_code.specs.CodeRunLaws.{CodeRunLaws}
+use Rattle.named_code.specs.ApartRunLaws.{ApartRunLaws}
 use Rattle.x86_values.specs.LessSpecified.{WordLessSpecified}
 use Rattle.instr_choose.specs.Lists.{choose_ops}
 use Rattle.instr_choose.specs.Blocks.{choose_exit}
 use Rattle.instr_choose.specs.Relation.{place_of_var, IsBelow, AreMetBy, ChoosingLaws}
 use Rattle.instr_choose.specs.Marks.{marks_of}
-use Rattle.instr_choose.specs.Apart.{turn_shown}
+use Rattle.named_code.specs.ApartRun.{turn_shown}
 use Rattle.instr_choose.specs.States.{LeadsTo, HasNoZero, ChosenPair}
 use Rattle.instr_choose.proofs.Below.{nothing}
 use Rattle.instr_choose.proofs.Choosing.{LawsBelow}
@@ -54,6 +56,8 @@ pub record UnitLawsBelow : Type 0 where
   pub meetings : MeetingLaws
   pub units : UnitLaws
   pub code : CodeRunLaws
+  pub apart : ApartRunLaws
+  pub traces : TraceLaws
   pub unit_runs : RunLaws UnitState
   pub unit_moves : MoveLaws UnitState
   pub code_runs : RunLaws CodePosition

@@ -13,10 +13,11 @@ use Rattle.flag_ir.specs.Costs.{Costing, BoundsTurns}
 use Rattle.named_code.specs.declared.named.VBlock.{VBlock}
 use Rattle.named_code.specs.Items.{Item, named_item, named_blocks}
 use Rattle.named_code.specs.CodeRun.{named_run}
+use Rattle.named_code.specs.ApartRun.{apart_run}
 use Rattle.named_code.specs.Form.{IsCodeInForm}
 use Rattle.named_code.specs.Weight.{BoundsCode}
 use Rattle.instr_choose.specs.Marks.{HasNamesOf, marks_of}
-use Rattle.instr_choose.specs.Apart.{StaysApart}
+use Rattle.instr_choose.specs.Apart.{UnitIsApart, StaysApart}
 use Rattle.instr_choose.specs.Lists.{choose_op}
 use Rattle.instr_choose.specs.Blocks.{choose_exit}
 
@@ -25,6 +26,13 @@ abbrev pub RefinesUnit : CodeUnit → List VBlock → Type 0
 RefinesUnit u code =
     (m : Memory) (entry esp0 : ℕ) (stack : List ℕ) (left : Environment) → HasBytes m → IsUsual esp0 m → IsStart esp0 stack → IsEnvironment left →
     RefinesByTurns (outside_run (unit_run u m entry esp0 stack left)) (named_run (marks_of u) code m entry esp0 stack left)
+
+-- ---- where the unit's accesses are apart, so does the run that ends, as if an unspecified value were used, at an access that isn't. The
+-- layers below agree with it, with no word on accesses
+abbrev pub RefinesUnitApart : CodeUnit → List VBlock → Type 0
+RefinesUnitApart u code =
+    UnitIsApart u → (m : Memory) (entry esp0 : ℕ) (stack : List ℕ) (left : Environment) → HasBytes m → IsUsual esp0 m → IsStart esp0 stack → IsEnvironment left →
+    RefinesByTurns (outside_run (unit_run u m entry esp0 stack left)) (apart_run (marks_of u) code m entry esp0 stack left)
 
 -- ---- costs: an operation and an exit cost what their instructions cost
 abbrev pub items_cost : (Item → ℕ) → List Item → ℕ
@@ -44,3 +52,4 @@ pub record Chooses (u : CodeUnit) (code : List VBlock) : Type 0 where
   pub keeps : RefinesUnit u code
   pub costs : CostsAsUnit u code
   pub apart : StaysApart u code
+  pub keeps_apart : RefinesUnitApart u code

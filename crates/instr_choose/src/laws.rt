@@ -4,9 +4,9 @@ ghost use Rattle.instr_choose.specs.Relation.{ChoosingLaws};
 
 use flag_ir::{UnitMeaning, unit_laws};
 use memory::{call_laws, less_specified_memory_laws, memory_laws};
-use named_code::{CodeMeaning, code_laws};
+use named_code::{CodeMeaning, apart_laws, code_laws};
 use private_memory::private_access_laws;
-use traces::{Family, meeting_laws, move_laws, run_laws, simulation_laws};
+use traces::{Family, meeting_laws, move_laws, run_laws, simulation_laws, trace_laws};
 use x86_values::{
     division_laws, less_specified_laws, logic_laws, product_laws, shift_laws, sum_laws, word_laws,
 };
@@ -58,6 +58,8 @@ pub(crate) fn chosen_law()
     meeting_laws();
     unit_laws();
     code_laws();
+    apart_laws();
+    trace_laws();
     run_laws::<UnitMeaning>();
     move_laws::<UnitMeaning>();
     run_laws::<CodeMeaning>();

@@ -3,3 +3,6 @@ pub mod Courses
 pub mod CodeMoves
 pub mod Weighing
 pub mod CodeRuns
+pub mod ApartMoves
+pub mod ApartRuns
+mod ApartRows

@@ -174,11 +174,11 @@ module _ (calls : CallLaws) (marks : Marks) (cost : Item → ℕ) (rest : ℕ �
         by false b e = (found_passes (IsBounded marks cost rest w) (λ (b : CodeBlock). b.at == a) code bounds b e).0.once
     point_once (Inside items) s h = goes_on_once items s h
 
-    next_once : (p : CodePosition) → IsOncePoint p.point → To (λ p. IsOncePoint p.point) (code_next marks code p)
+    pub next_once : (p : CodePosition) → IsOncePoint p.point → To (λ p. IsOncePoint p.point) (code_next marks code p)
     unfolding code_next
     next_once p h = point_once p.point p.state h
 
-    to_once : (m : Move CodePosition) → To (λ p. IsOncePoint p.point) m → To (Holds (λ (i : OncePosition). i.position)) m
+    pub to_once : (m : Move CodePosition) → To (λ p. IsOncePoint p.point) m → To (Holds (λ (i : OncePosition). i.position)) m
     to_once (Stand ls e) h = tt
     to_once (Go ls s) h = (record { position = s; once = h }, refl)
     to_once (Halt ls e) h = tt

@@ -6,3 +6,6 @@ pub mod Items
 pub mod RowParts
 pub mod Running
 pub mod Weight
+pub mod ApartRun
+pub mod ApartRunLaws
+pub mod ApartRows

@@ -1,7 +1,9 @@
 // The laws of the definitions.
+ghost use Rattle.named_code.specs.ApartRunLaws.{ApartRunLaws};
 ghost use Rattle.named_code.specs.CodeRunLaws.{CodeRunLaws};
 
 use memory::call_laws;
+use private_memory::private_access_laws;
 use traces::{Family, States, invariant_laws, move_laws, run_laws};
 
 /// Names the positions of code over places.
@@ -33,4 +35,16 @@ pub fn code_laws()
     move_laws::<CodeMeaning>();
     invariant_laws::<CodeMeaning, OncePositions>();
     call_laws();
+}
+
+/// Its clause is the laws of code whose accesses keep apart: its runs are those of the code up to an access that isn't apart, grow,
+/// show their events one by one and end with no stop and no guard event, and their turns cost what is read off the text.
+pub fn apart_laws()
+    ensures { ApartRunLaws }
+{
+    run_laws::<CodeMeaning>();
+    move_laws::<CodeMeaning>();
+    invariant_laws::<CodeMeaning, OncePositions>();
+    call_laws();
+    private_access_laws();
 }

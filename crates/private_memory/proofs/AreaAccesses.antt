@@ -9,6 +9,7 @@ use Rattle.private_memory.specs.PrivateArea.{is_private, without_private, IsUsua
 use Rattle.private_memory.specs.PrivateAreaLaws.{PrivateAccessLaws}
 use Rattle.private_memory.proofs.Places.{in_area, is_in, is_below, hidden_in, shown_outside_area, no_kind}
 use Rattle.private_memory.proofs.UsualMemory.{stack_above}
+use Rattle.private_memory.proofs.ApartTest.{apart_passes, passes_apart}
 
 usual_has : (esp0 : ℕ) (m : Memory) → IsUsual esp0 m → HasPrivateArea m
 usual_has esp0 m h = record { zero = h.first_page 0 (omega arith); before = h.gap 0x5FFFFFFF (omega arith) (omega arith); area = h.area }
@@ -134,4 +135,6 @@ module _ (laws : MemoryLaws) where
           let none = outside a.kind m a.at a.size h out all in
           record { code = apart_part a.at a.size 0x60000000 0x15000000 (omega arith) (omega arith) none; names = apart_part a.at a.size 0x75220000 0xDE0000 (omega arith) (omega arith) none };
     };
+    apart_passes = apart_passes;
+    passes_apart = passes_apart;
   }

@@ -1,3 +1,4 @@
 pub mod Places
 pub mod UsualMemory
 pub mod AreaAccesses
+pub mod ApartTest

@@ -1,10 +1,10 @@
 -- The private area of a written file: its own code, the address table, the cells and the images of frames stand there, and the program never
 -- reaches it. All of this is own.
-use Rattle.std.specs.Prelude.{◌≡◌, ℕ, ◌-◌, ◌<◌, ◌≤◌, ◌&&◌, ◌||◌, Bool, true, false, cond, leb, ltb, slice_index_or, Some, None}
+use Rattle.std.specs.Prelude.{◌≡◌, ℕ, zero, suc, ◌+◌, ◌-◌, ◌<◌, ◌≤◌, ◌&&◌, ◌||◌, Bool, true, false, not, cond, leb, ltb, slice_index_or, Some, None}
 use Rattle.x86_values.specs.declared.byte.Byte.{Byte}
 use Rattle.x86_values.specs.declared.byte.Byte.TheVariants.{Known}
 use Rattle.x86_values.specs.Words.{word_of, word_list}
-use Rattle.memory.specs.Memory.{Place, Memory, byte_of, bytes_at, allows_all, kind_of, AreApart}
+use Rattle.memory.specs.Memory.{Place, Memory, wrapped, byte_of, bytes_at, allows_all, kind_of, AreApart}
 use Rattle.x86_meaning.specs.Operands.{Access}
 
 unfoldable pub is_private : ℕ → Bool
@@ -50,6 +50,20 @@ pub record AreElsewhere (from n : ℕ) : Type 0 where
 
 pub record IsApartAccess (m : Memory) (a : Access) : Type 0 where
   pub elsewhere : allows_all a.kind m a.at a.size ≡ true → AreElsewhere a.at a.size
+
+-- the same as a test: each address lies below or above both ranges
+abbrev pub lies_beside : ℕ → ℕ → ℕ → Bool
+lies_beside low high a = ltb a low || leb high a
+
+abbrev pub is_elsewhere : ℕ → Bool
+is_elsewhere a = lies_beside 0x60000000 0x75000000 a && lies_beside 0x75220000 0x76000000 a
+
+unfoldable pub all_elsewhere : ℕ → ℕ → Bool
+all_elsewhere from zero = true
+all_elsewhere from (suc n) = is_elsewhere (wrapped from) && all_elsewhere (from + 1) n
+
+unfoldable pub is_apart_access : Memory → Access → Bool
+is_apart_access m a = not (allows_all a.kind m a.at a.size) || all_elsewhere a.at a.size
 
 -- what accesses rest on: the area can be read and written, and neither the last address before it nor address 0 is mapped
 pub record HasPrivateArea (m : Memory) : Type 0 where

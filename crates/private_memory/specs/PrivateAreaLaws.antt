@@ -4,7 +4,7 @@ use Rattle.x86_values.specs.declared.byte.Byte.{Byte}
 use Rattle.memory.specs.Memory.{Memory, AccessKind, wrapped, put_all, allows_all, bytes_at, with_stack, HasBytes}
 use Rattle.x86_meaning.specs.Operands.{Access}
 use Rattle.x86_meaning.specs.Run.{IsStart}
-use Rattle.private_memory.specs.PrivateArea.{is_private, without_private, IsUsual, IsOfProgram, with_private, IsApartAccess, HasPrivateArea}
+use Rattle.private_memory.specs.PrivateArea.{is_private, without_private, IsUsual, IsOfProgram, with_private, IsApartAccess, is_apart_access, HasPrivateArea}
 
 -- each memory of a program is that of a usual memory, which has known bytes where it has them
 pub record UsualLaws : Type 0 where
@@ -29,3 +29,6 @@ pub record PrivateAccessLaws : Type 0 where
   pub refuses_zero : (kind : AccessKind) (m : Memory) (n : ℕ) → HasPrivateArea m → allows_all kind m 0 (suc n) ≡ false
   pub allows_area : (kind : AccessKind) (m : Memory) (at n : ℕ) → HasPrivateArea m → 0x60000000 ≤ at → at + n ≤ 0x7C000000 → allows_all kind m at n ≡ true
   pub apart : (m : Memory) (a : Access) → HasPrivateArea m → is_private (wrapped a.at) ≡ false → IsApartAccess m a
+  -- the test passes exactly the accesses that are apart
+  pub apart_passes : (m : Memory) (a : Access) → IsApartAccess m a → is_apart_access m a ≡ true
+  pub passes_apart : (m : Memory) (a : Access) → is_apart_access m a ≡ true → IsApartAccess m a
