@@ -22,31 +22,7 @@ use Rattle.x86_meaning.specs.Transfers.{transfer}
 use Rattle.x86_meaning.specs.Outcomes.{Way, Falls, JumpsBy, JumpsTo, Repeats, Calls, Computation, on_one, on_two, on_three, alu_computed, quotient_and_remainder, goes_to, jump_computed}
 use Rattle.x86_meaning.specs.Effect.{Effect, written_to, all_written, effect_of, effect_by, effect}
 use Rattle.x86_meaning.specs.Computing.{compute}
-use Rattle.named_code.specs.Weight.{Course, Next, ToBlock, Either, ToOld, Again, course_of}
-
--- a way is one of a course
-abbrev pub IsWayOf : Course → Way → Type 0
-IsWayOf Next Falls = Unit {0}
-IsWayOf Next Calls = Unit {0}
-IsWayOf Next (JumpsBy by) = ⊥
-IsWayOf Next (JumpsTo at) = ⊥
-IsWayOf Next Repeats = ⊥
-IsWayOf (ToBlock n) (JumpsBy by) = by ≡ n
-IsWayOf (ToBlock n) Falls = ⊥
-IsWayOf (ToBlock n) Calls = ⊥
-IsWayOf (ToBlock n) (JumpsTo at) = ⊥
-IsWayOf (ToBlock n) Repeats = ⊥
-IsWayOf (Either n) (JumpsBy by) = by ≡ n
-IsWayOf (Either n) Falls = Unit {0}
-IsWayOf (Either n) Calls = ⊥
-IsWayOf (Either n) (JumpsTo at) = ⊥
-IsWayOf (Either n) Repeats = ⊥
-IsWayOf ToOld (JumpsTo at) = Unit {0}
-IsWayOf ToOld (JumpsBy by) = ⊥
-IsWayOf ToOld Falls = ⊥
-IsWayOf ToOld Calls = ⊥
-IsWayOf ToOld Repeats = ⊥
-IsWayOf Again w = Unit {0}
+use Rattle.named_code.specs.Weight.{Course, Next, ToBlock, Either, ToOld, Again, course_of, IsWayOf}
 
 abbrev IsComputedBy : Course → Computation → Type 0
 IsComputedBy k (Ok c) = IsWayOf k c.way

@@ -3,6 +3,6 @@ pub mod Courses
 pub mod CodeMoves
 pub mod Weighing
 pub mod CodeRuns
-pub mod ApartMoves
-pub mod ApartRuns
+pub mod TestedMoves
+pub mod TestedRuns
 mod ApartRows

@@ -11,9 +11,9 @@ use Rattle.x86_meaning.specs.Outcomes.{Way, Falls, JumpsBy, JumpsTo, Repeats, Ca
 use Rattle.x86_meaning.specs.Step.{request_of}
 use Rattle.named_code.specs.Items.{Item, CodeBlock}
 use Rattle.named_code.specs.Running.{CodeState, CodePoint, AtNumber, AtOld, Inside, CodePosition, after_call, onward, performed, goes_on, block_of_number, block_at, Marks, begun, move_at, code_next}
-use Rattle.named_code.specs.Weight.{Course, Next, ToBlock, Either, ToOld, Again, course_of, left_at, most_behind, most, first_cost, entry_cost, cost_at, step_cost, IsOnce, IsBounded, BoundsCode}
+use Rattle.named_code.specs.Weight.{Course, Next, ToBlock, Either, ToOld, Again, course_of, left_at, most_behind, most, first_cost, entry_cost, cost_at, step_cost, IsOnce, IsBounded, BoundsCode, IsWayOf}
 use Rattle.named_code.specs.CodeRunLaws.{IsOncePoint, OncePosition}
-use Rattle.named_code.proofs.Courses.{IsWayOf, way_is}
+use Rattle.named_code.proofs.Courses.{way_is}
 use Rattle.named_code.proofs.CodeMoves.{act_holds, goes_on_plain}
 
 -- ---- lists

@@ -13,7 +13,8 @@ use Rattle.named_code.specs.Items.{Item, CodeBlock}
 use Rattle.named_code.specs.Running.{CodeState, AtNumber, AtOld, Inside, CodePosition, standing_at}
 use Rattle.named_code.specs.RowParts.{item, block, row_memory, row_state, end_of_move, labels_of_move}
 use Rattle.named_code.specs.CodeRows.{mark_six, load_at, call}
-use Rattle.named_code.specs.ApartRun.{apart_next}
+use Rattle.private_memory.specs.PrivateArea.{is_apart_access}
+use Rattle.named_code.specs.TestedRun.{tested_next}
 
 -- each address can be written
 abbrev pub full_memory : Memory
@@ -24,7 +25,7 @@ state_over m = record row_state { memory = m }
 
 -- ---- the end of the first move of some items
 abbrev pub apart_end : Memory → Item → Option End
-apart_end m x = end_of_move (apart_next mark_six [] (standing_at (Inside (x ∷ [])) (state_over m)))
+apart_end m x = end_of_move (tested_next is_apart_access mark_six [] (standing_at (Inside (x ∷ [])) (state_over m)))
 
 abbrev pub store_at : ℕ → Item
 store_at n = item (instr.Mov One (rm.Mem (record { base = None; index = None; scale = 1; disp = n })) (src.Imm 7)) []
@@ -41,16 +42,16 @@ abbrev pub call_registers : ℕ → ℕ → ℕ → ℕ → Registers
 call_registers number at count fd k = word_of (cond (k == 0) number (cond (k == 1) at (cond (k == 2) count fd)))
 
 abbrev pub call_end : ℕ → ℕ → ℕ → ℕ → Option End
-call_end number at count fd = end_of_move (apart_next mark_six [] (standing_at (Inside (call ∷ [])) (record (state_over full_memory) { cpu = record row_state.cpu { regs = call_registers number at count fd } })))
+call_end number at count fd = end_of_move (tested_next is_apart_access mark_six [] (standing_at (Inside (call ∷ [])) (record (state_over full_memory) { cpu = record row_state.cpu { regs = call_registers number at count fd } })))
 
 pub record ApartRows : Type 0 where
   -- it ends with the turn that it begins
-  pub turn : labels_of_move (apart_next mark_six loading_blocks (standing_before 6)) ≡ Turn 0x300 ∷ []
-  pub ended : end_of_move (apart_next mark_six loading_blocks (standing_before 6)) ≡ Some Unspecified
-  pub by_old : labels_of_move (apart_next mark_six loading_blocks (standing_at (AtOld 0x300) row_state)) ≡ Turn 0x300 ∷ []
-  pub no_turn : labels_of_move (apart_next mark_six loading_blocks (standing_before 5)) ≡ []
+  pub turn : labels_of_move (tested_next is_apart_access mark_six loading_blocks (standing_before 6)) ≡ Turn 0x300 ∷ []
+  pub ended : end_of_move (tested_next is_apart_access mark_six loading_blocks (standing_before 6)) ≡ Some Unspecified
+  pub by_old : labels_of_move (tested_next is_apart_access mark_six loading_blocks (standing_at (AtOld 0x300) row_state)) ≡ Turn 0x300 ∷ []
+  pub no_turn : labels_of_move (tested_next is_apart_access mark_six loading_blocks (standing_before 5)) ≡ []
   -- what isn't allowed faults, be it in an area that isn't reached or elsewhere
-  pub refused : end_of_move (apart_next mark_six loading_blocks (standing_before 7)) ≡ Some MemoryFault
+  pub refused : end_of_move (tested_next is_apart_access mark_six loading_blocks (standing_before 7)) ≡ Some MemoryFault
   pub not_mapped : apart_end row_memory (load_at 0x60000000) ≡ Some MemoryFault
   -- the bounds of both ranges, for words and bytes
   pub below_code : apart_end full_memory (load_at 0x5FFFFFFC) ≡ None
@@ -68,4 +69,4 @@ pub record ApartRows : Type 0 where
   pub empty : call_end 4 0x75FFFFFF 0 1 ≡ None
   pub no_descriptor : call_end 4 0x75FFFFFF 2 5 ≡ None
   -- where there is no item nothing is accessed
-  pub nothing : labels_of_move (apart_next mark_six loading_blocks (standing_before 8)) ≡ []
+  pub nothing : labels_of_move (tested_next is_apart_access mark_six loading_blocks (standing_before 8)) ≡ []

@@ -1,5 +1,5 @@
 -- The register fields of instructions, and named code in form. All of this is own.
-use Rattle.std.specs.Prelude.{◌≡◌, ◌≢◌, ◌<◌, List, [], ◌∷◌, ◌++◌, map, length, All, Contains, Option, Some, None}
+use Rattle.std.specs.Prelude.{◌≡◌, ◌≢◌, ℕ, ◌<◌, List, [], ◌∷◌, ◌++◌, map, length, All, Contains, Option, Some, None}
 use Rattle.std.specs.List.{range_with_len}
 use Rattle.x86_types.specs.declared.operand.Reg.{Reg}
 use Rattle.x86_types.specs.declared.operand.Reg.TheVariants.{Esp}
@@ -11,6 +11,7 @@ use Rattle.x86_types.specs.declared.operand.Address.{Address}
 use Rattle.x86_types.specs.declared.instr.Instr.{Instr}
 use Rattle.x86_types.specs.declared.instr.Instr.TheVariants as instr
 use Rattle.x86_types.specs.Numbers.{number_of_reg}
+use Rattle.x86_grammar.specs.Fields.{HasSpelling}
 use Rattle.named_code.specs.declared.slot.Slot.{Slot}
 use Rattle.named_code.specs.declared.slot.Slot.TheVariants.{Fixed, Name}
 use Rattle.named_code.specs.declared.named.VInstr.{VInstr}
@@ -92,18 +93,20 @@ IsStackless (instr.Ret drop) = ⊥
 IsStackless instr.Leave = ⊥
 IsStackless _ = Unit {0}
 
--- the block that it names is there
-abbrev pub NamesBlock : List VBlock → Instr → Type 0
-NamesBlock code (instr.Jmp by) = Contains (map (λ b. b.number) code) by
-NamesBlock code (instr.Jcc c by) = Contains (map (λ b. b.number) code) by
-NamesBlock code _ = Unit {0}
+-- the block that it names is one of these numbers
+abbrev pub NamesBlock : List ℕ → Instr → Type 0
+NamesBlock numbers (instr.Jmp by) = Contains numbers by
+NamesBlock numbers (instr.Jcc c by) = Contains numbers by
+NamesBlock numbers _ = Unit {0}
 
 pub record IsInstrInForm (code : List VBlock) (i : VInstr) : Type 0 where
+  -- it can be spelled, with any registers in its fields
+  pub spelled : HasSpelling i.instr
   -- its fields are numbered in order, and each has a slot
   pub fields : map number_of_reg (register_fields i.instr) ≡ range_with_len 0 (length i.slots)
   pub slots : All IsSlot i.slots
   pub stackless : IsStackless i.instr
-  pub target : NamesBlock code i.instr
+  pub target : NamesBlock (map (λ b. b.number) code) i.instr
 
 -- ---- code in form: blocks with an old address have an instruction
 pub record IsBlockInForm (code : List VBlock) (b : VBlock) : Type 0 where

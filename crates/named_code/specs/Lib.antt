@@ -7,5 +7,8 @@ pub mod RowParts
 pub mod Running
 pub mod Weight
 pub mod ApartRun
-pub mod ApartRunLaws
+pub mod TestedRun
+pub mod TestedRunLaws
 pub mod ApartRows
+pub mod PlacedForm
+pub mod ClearRun

@@ -1,7 +1,8 @@
 -- What the turns of code cost, read off its text. All of this is own.
-use Rattle.std.specs.Prelude.{◌≢◌, ℕ, ◌+◌, ◌≤◌, ◌==◌, max, true, false, cond, List, [], ◌∷◌, All, Option, Some, None}
+use Rattle.std.specs.Prelude.{◌≡◌, ◌≢◌, ℕ, ◌+◌, ◌≤◌, ◌==◌, max, true, false, cond, List, [], ◌∷◌, All, Option, Some, None}
 use Rattle.x86_types.specs.declared.instr.Instr.{Instr}
 use Rattle.x86_types.specs.declared.instr.Instr.TheVariants as instr
+use Rattle.x86_meaning.specs.Outcomes.{Way, Falls, JumpsBy, JumpsTo, Repeats, Calls}
 use Rattle.named_code.specs.Items.{Item, CodeBlock}
 use Rattle.named_code.specs.Running.{CodePoint, AtNumber, AtOld, Inside, CodePosition, Marks, block_of_number, block_at}
 
@@ -58,6 +59,30 @@ course_of instr.Leave = Next
 course_of instr.Int80 = Next
 course_of instr.Cld = Next
 course_of instr.Nop = Next
+
+-- ---- a way is one of a course
+abbrev pub IsWayOf : Course → Way → Type 0
+IsWayOf Next Falls = Unit {0}
+IsWayOf Next Calls = Unit {0}
+IsWayOf Next (JumpsBy by) = ⊥
+IsWayOf Next (JumpsTo at) = ⊥
+IsWayOf Next Repeats = ⊥
+IsWayOf (ToBlock n) (JumpsBy by) = by ≡ n
+IsWayOf (ToBlock n) Falls = ⊥
+IsWayOf (ToBlock n) Calls = ⊥
+IsWayOf (ToBlock n) (JumpsTo at) = ⊥
+IsWayOf (ToBlock n) Repeats = ⊥
+IsWayOf (Either n) (JumpsBy by) = by ≡ n
+IsWayOf (Either n) Falls = Unit {0}
+IsWayOf (Either n) Calls = ⊥
+IsWayOf (Either n) (JumpsTo at) = ⊥
+IsWayOf (Either n) Repeats = ⊥
+IsWayOf ToOld (JumpsTo at) = Unit {0}
+IsWayOf ToOld (JumpsBy by) = ⊥
+IsWayOf ToOld Falls = ⊥
+IsWayOf ToOld Calls = ⊥
+IsWayOf ToOld Repeats = ⊥
+IsWayOf Again w = Unit {0}
 
 -- ---- the longest way through a list of items to the next turn
 -- what is left of the turn behind a jump to a block, where so much is left for a block that begins none

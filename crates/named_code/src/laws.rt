@@ -1,6 +1,6 @@
 // The laws of the definitions.
-ghost use Rattle.named_code.specs.ApartRunLaws.{ApartRunLaws};
 ghost use Rattle.named_code.specs.CodeRunLaws.{CodeRunLaws};
+ghost use Rattle.named_code.specs.TestedRunLaws.{TestedRunLaws};
 
 use memory::call_laws;
 use private_memory::private_access_laws;
@@ -37,10 +37,10 @@ pub fn code_laws()
     call_laws();
 }
 
-/// Its clause is the laws of code whose accesses keep apart: its runs are those of the code up to an access that isn't apart, grow,
+/// Its clause is the laws of code whose accesses are tested: its runs are those of the code up to an access that doesn't pass, grow,
 /// show their events one by one and end with no stop and no guard event, and their turns cost what is read off the text.
-pub fn apart_laws()
-    ensures { ApartRunLaws }
+pub fn tested_laws()
+    ensures { TestedRunLaws }
 {
     run_laws::<CodeMeaning>();
     move_laws::<CodeMeaning>();

@@ -8,7 +8,7 @@ mod placed;
 mod rows;
 mod slot;
 
-pub use laws::{CodeMeaning, apart_laws, code_laws};
+pub use laws::{CodeMeaning, code_laws, tested_laws};
 pub use named::{VBlock, VCode, VInstr, VInstrList};
 pub use placed::{Home, HomeList, PBlock, PBlockList, PInstr, PInstrList, Placed};
 pub use rows::worked_code;

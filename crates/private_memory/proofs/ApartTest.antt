@@ -1,9 +1,9 @@
--- The test of an access passes exactly those that are apart.
+-- The tests of an access pass exactly those that are apart, or clear.
 use Rattle.std.proofs.Common.{◌≡◌, ◌⊎◌, ℕ, zero, suc, ◌+◌, ◌-◌, ◌%◌, ◌<◌, ◌≤◌, ◌&&◌, ◌||◌, Bool, true, false, not, leb, ltb, refl, sym, ap, ap₂, ◌∙◌, subst, inl, inr, arith}
 use Rattle.std.proofs.lemmas.Bool.{and_parts, or_left, or_right, ltb-false, ltb-true, leb-true, le-leb}
 use Rattle.memory.specs.Memory.{Memory, wrapped, allows_all, AreApart}
 use Rattle.x86_meaning.specs.Operands.{Access}
-use Rattle.private_memory.specs.PrivateArea.{AreElsewhere, IsApartAccess, lies_beside, is_elsewhere, all_elsewhere, is_apart_access}
+use Rattle.private_memory.specs.PrivateArea.{AreElsewhere, IsApartAccess, AreUnreserved, IsClearAccess, each_address, lies_beside, is_elsewhere, is_apart_access, is_unreserved, is_clear_access}
 
 -- ---- one address beside one range
 below_or_above : (low high a : ℕ) → lies_beside low high a ≡ true → (a < low) ⊎ (high ≤ a)
@@ -52,41 +52,68 @@ first_beside from n at count high h = beside at (at + count) (wrapped from) (λ 
 rest_apart : (from n at count : ℕ) → AreApart from (suc n) at count → AreApart (from + 1) n at count
 rest_apart from n at count h = record { apart = λ j k l m e. let same : from + 1 + j ≡ from + suc j = omega arith in h.apart (suc j) k (omega arith) m (ap wrapped (sym same) ∙ e) }
 
--- ---- a range beside both
-each_elsewhere : (from n : ℕ) → all_elsewhere from n ≡ true → (j : ℕ) → j < n → is_elsewhere (wrapped (from + j)) ≡ true
-unfolding all_elsewhere
-each_elsewhere from zero h j l = absurd (omega arith)
-each_elsewhere from (suc n) h zero l =
-    let same : from + 0 ≡ from = omega arith in
-    subst (λ a. is_elsewhere (wrapped a) ≡ true) (sym same) (and_parts (is_elsewhere (wrapped from)) (all_elsewhere (from + 1) n) h).0
-each_elsewhere from (suc n) h (suc j) l =
-    let same : from + 1 + j ≡ from + suc j = omega arith in
-    subst (λ a. is_elsewhere (wrapped a) ≡ true) same (each_elsewhere (from + 1) n (and_parts (is_elsewhere (wrapped from)) (all_elsewhere (from + 1) n) h).1 j (omega arith))
+-- ---- a range beside both: the second one lies behind the first
+module _ (at count : ℕ) (high : at + count ≤ 4294967296) where
+  abbrev lies_elsewhere : ℕ → Bool
+  lies_elsewhere a = lies_beside 0x60000000 0x75000000 a && lies_beside at (at + count) a
 
-elsewhere_by : (from n : ℕ) → all_elsewhere from n ≡ true → AreElsewhere from n
-elsewhere_by from n h = record {
-  code = ranges_apart from n 0x60000000 0x15000000 (omega arith) (λ j l. (and_parts (lies_beside 0x60000000 0x75000000 (wrapped (from + j))) (lies_beside 0x75220000 0x76000000 (wrapped (from + j))) (each_elsewhere from n h j l)).0);
-  names = ranges_apart from n 0x75220000 0xDE0000 (omega arith) (λ j l. (and_parts (lies_beside 0x60000000 0x75000000 (wrapped (from + j))) (lies_beside 0x75220000 0x76000000 (wrapped (from + j))) (each_elsewhere from n h j l)).1);
-}
+  each_elsewhere : (from n : ℕ) → each_address lies_elsewhere from n ≡ true → (j : ℕ) → j < n → lies_elsewhere (wrapped (from + j)) ≡ true
+  unfolding each_address
+  each_elsewhere from zero h j l = absurd (omega arith)
+  each_elsewhere from (suc n) h zero l =
+      let same : from + 0 ≡ from = omega arith in
+      subst (λ a. lies_elsewhere (wrapped a) ≡ true) (sym same) (and_parts (lies_elsewhere (wrapped from)) (each_address lies_elsewhere (from + 1) n) h).0
+  each_elsewhere from (suc n) h (suc j) l =
+      let same : from + 1 + j ≡ from + suc j = omega arith in
+      subst (λ a. lies_elsewhere (wrapped a) ≡ true) same (each_elsewhere (from + 1) n (and_parts (lies_elsewhere (wrapped from)) (each_address lies_elsewhere (from + 1) n) h).1 j (omega arith))
 
-elsewhere_passes : (from n : ℕ) → AreElsewhere from n → all_elsewhere from n ≡ true
-unfolding all_elsewhere
-elsewhere_passes from zero h = refl
-elsewhere_passes from (suc n) h =
-    let code = first_beside from n 0x60000000 0x15000000 (omega arith) h.code in
-    let names = first_beside from n 0x75220000 0xDE0000 (omega arith) h.names in
-    let rest = elsewhere_passes (from + 1) n (record { code = rest_apart from n 0x60000000 0x15000000 h.code; names = rest_apart from n 0x75220000 0xDE0000 h.names }) in
-    ap₂ (λ b c. b && c) (ap₂ (λ b c. b && c) code names) rest
+  apart_by : (from n : ℕ) → each_address lies_elsewhere from n ≡ true → AreApart from n 0x60000000 0x15000000 × AreApart from n at count
+  apart_by from n h =
+      let parts : (j : ℕ) → j < n → (lies_beside 0x60000000 0x75000000 (wrapped (from + j)) ≡ true) × (lies_beside at (at + count) (wrapped (from + j)) ≡ true)
+          = λ j l. and_parts (lies_beside 0x60000000 0x75000000 (wrapped (from + j))) (lies_beside at (at + count) (wrapped (from + j))) (each_elsewhere from n h j l) in
+      (ranges_apart from n 0x60000000 0x15000000 (omega arith) (λ j l. (parts j l).0), ranges_apart from n at count high (λ j l. (parts j l).1))
 
--- ---- an access
+  apart_all : (from n : ℕ) → AreApart from n 0x60000000 0x15000000 → AreApart from n at count → each_address lies_elsewhere from n ≡ true
+  unfolding each_address
+  apart_all from zero code other = refl
+  apart_all from (suc n) code other =
+      let first = first_beside from n 0x60000000 0x15000000 (omega arith) code in
+      let second = first_beside from n at count high other in
+      let rest = apart_all (from + 1) n (rest_apart from n 0x60000000 0x15000000 code) (rest_apart from n at count other) in
+      ap₂ (λ b c. b && c) (ap₂ (λ b c. b && c) first second) rest
+
+-- ---- an access: where it isn't allowed, it passes
+passes_by : (allowed beside : Bool) → (allowed ≡ true → beside ≡ true) → (not allowed || beside) ≡ true
+passes_by true beside h = h refl
+passes_by false beside h = refl
+
 pub apart_passes : (m : Memory) (a : Access) → IsApartAccess m a → is_apart_access m a ≡ true
 unfolding is_apart_access
-apart_passes m a h = cases (allows_all a.kind m a.at a.size) refl
-  where
-    cases : (b : Bool) → allows_all a.kind m a.at a.size ≡ b → (not b || all_elsewhere a.at a.size) ≡ true
-    cases true e = elsewhere_passes a.at a.size (h.elsewhere e)
-    cases false e = refl
+apart_passes m a h = passes_by (allows_all a.kind m a.at a.size) (each_address is_elsewhere a.at a.size) (λ all. apart_all 0x75220000 0xDE0000 (omega arith) a.at a.size (h.elsewhere all).code (h.elsewhere all).names)
 
 pub passes_apart : (m : Memory) (a : Access) → is_apart_access m a ≡ true → IsApartAccess m a
 unfolding is_apart_access
-passes_apart m a h = record { elsewhere = λ all. elsewhere_by a.at a.size (subst (λ b. (not b || all_elsewhere a.at a.size) ≡ true) all h) }
+passes_apart m a h = record {
+  elsewhere = λ all.
+      let both = apart_by 0x75220000 0xDE0000 (omega arith) a.at a.size (subst (λ b. (not b || each_address is_elsewhere a.at a.size) ≡ true) all h) in
+      record { code = both.0; names = both.1 };
+}
+
+pub clear_passes : (m : Memory) (a : Access) → IsClearAccess m a → is_clear_access m a ≡ true
+unfolding is_clear_access
+clear_passes m a h = passes_by (allows_all a.kind m a.at a.size) (each_address is_unreserved a.at a.size) (λ all. apart_all 0x75800000 0x800000 (omega arith) a.at a.size (h.unreserved all).code (h.unreserved all).behind_names)
+
+pub passes_clear : (m : Memory) (a : Access) → is_clear_access m a ≡ true → IsClearAccess m a
+unfolding is_clear_access
+passes_clear m a h = record {
+  unreserved = λ all.
+      let both = apart_by 0x75800000 0x800000 (omega arith) a.at a.size (subst (λ b. (not b || each_address is_unreserved a.at a.size) ≡ true) all h) in
+      record { code = both.0; behind_names = both.1 };
+}
+
+-- the second range of what is apart holds that of what is clear
+behind_within : (from n : ℕ) → AreApart from n 0x75220000 0xDE0000 → AreApart from n 0x75800000 0x800000
+behind_within from n h = record { apart = λ j k l m e. let there : 0x75220000 + (0x5E0000 + k) ≡ 0x75800000 + k = omega arith in h.apart j (0x5E0000 + k) l (omega (arith, m)) (e ∙ ap wrapped (sym there)) }
+
+pub apart_is_clear : (m : Memory) (a : Access) → IsApartAccess m a → IsClearAccess m a
+apart_is_clear m a h = record { unreserved = λ all. record { code = (h.elsewhere all).code; behind_names = behind_within a.at a.size (h.elsewhere all).names } }

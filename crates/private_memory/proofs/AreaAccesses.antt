@@ -9,7 +9,7 @@ use Rattle.private_memory.specs.PrivateArea.{is_private, without_private, IsUsua
 use Rattle.private_memory.specs.PrivateAreaLaws.{PrivateAccessLaws}
 use Rattle.private_memory.proofs.Places.{in_area, is_in, is_below, hidden_in, shown_outside_area, no_kind}
 use Rattle.private_memory.proofs.UsualMemory.{stack_above}
-use Rattle.private_memory.proofs.ApartTest.{apart_passes, passes_apart}
+use Rattle.private_memory.proofs.ApartTest.{apart_passes, passes_apart, clear_passes, passes_clear, apart_is_clear}
 
 usual_has : (esp0 : ℕ) (m : Memory) → IsUsual esp0 m → HasPrivateArea m
 usual_has esp0 m h = record { zero = h.first_page 0 (omega arith); before = h.gap 0x5FFFFFFF (omega arith) (omega arith); area = h.area }
@@ -137,4 +137,7 @@ module _ (laws : MemoryLaws) where
     };
     apart_passes = apart_passes;
     passes_apart = passes_apart;
+    clear_passes = clear_passes;
+    passes_clear = passes_clear;
+    apart_is_clear = apart_is_clear;
   }

@@ -52,18 +52,32 @@ pub record IsApartAccess (m : Memory) (a : Access) : Type 0 where
   pub elsewhere : allows_all a.kind m a.at a.size ≡ true → AreElsewhere a.at a.size
 
 -- the same as a test: each address lies below or above both ranges
+unfoldable pub each_address : (ℕ → Bool) → ℕ → ℕ → Bool
+each_address test from zero = true
+each_address test from (suc n) = test (wrapped from) && each_address test (from + 1) n
+
 abbrev pub lies_beside : ℕ → ℕ → ℕ → Bool
 lies_beside low high a = ltb a low || leb high a
 
 abbrev pub is_elsewhere : ℕ → Bool
 is_elsewhere a = lies_beside 0x60000000 0x75000000 a && lies_beside 0x75220000 0x76000000 a
 
-unfoldable pub all_elsewhere : ℕ → ℕ → Bool
-all_elsewhere from zero = true
-all_elsewhere from (suc n) = is_elsewhere (wrapped from) && all_elsewhere (from + 1) n
-
 unfoldable pub is_apart_access : Memory → Access → Bool
-is_apart_access m a = not (allows_all a.kind m a.at a.size) || all_elsewhere a.at a.size
+is_apart_access m a = not (allows_all a.kind m a.at a.size) || each_address is_elsewhere a.at a.size
+
+-- ---- the same where the names' cells, up to 0x75800000, may be reached
+pub record AreUnreserved (from n : ℕ) : Type 0 where
+  pub code : AreApart from n 0x60000000 0x15000000
+  pub behind_names : AreApart from n 0x75800000 0x800000
+
+pub record IsClearAccess (m : Memory) (a : Access) : Type 0 where
+  pub unreserved : allows_all a.kind m a.at a.size ≡ true → AreUnreserved a.at a.size
+
+abbrev pub is_unreserved : ℕ → Bool
+is_unreserved a = lies_beside 0x60000000 0x75000000 a && lies_beside 0x75800000 0x76000000 a
+
+unfoldable pub is_clear_access : Memory → Access → Bool
+is_clear_access m a = not (allows_all a.kind m a.at a.size) || each_address is_unreserved a.at a.size
 
 -- what accesses rest on: the area can be read and written, and neither the last address before it nor address 0 is mapped
 pub record HasPrivateArea (m : Memory) : Type 0 where

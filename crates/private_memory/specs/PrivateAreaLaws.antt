@@ -4,7 +4,7 @@ use Rattle.x86_values.specs.declared.byte.Byte.{Byte}
 use Rattle.memory.specs.Memory.{Memory, AccessKind, wrapped, put_all, allows_all, bytes_at, with_stack, HasBytes}
 use Rattle.x86_meaning.specs.Operands.{Access}
 use Rattle.x86_meaning.specs.Run.{IsStart}
-use Rattle.private_memory.specs.PrivateArea.{is_private, without_private, IsUsual, IsOfProgram, with_private, IsApartAccess, is_apart_access, HasPrivateArea}
+use Rattle.private_memory.specs.PrivateArea.{is_private, without_private, IsUsual, IsOfProgram, with_private, IsApartAccess, is_apart_access, HasPrivateArea, IsClearAccess, is_clear_access}
 
 -- each memory of a program is that of a usual memory, which has known bytes where it has them
 pub record UsualLaws : Type 0 where
@@ -32,3 +32,7 @@ pub record PrivateAccessLaws : Type 0 where
   -- the test passes exactly the accesses that are apart
   pub apart_passes : (m : Memory) (a : Access) → IsApartAccess m a → is_apart_access m a ≡ true
   pub passes_apart : (m : Memory) (a : Access) → is_apart_access m a ≡ true → IsApartAccess m a
+  -- and so with those that are clear; what is apart is clear
+  pub clear_passes : (m : Memory) (a : Access) → IsClearAccess m a → is_clear_access m a ≡ true
+  pub passes_clear : (m : Memory) (a : Access) → is_clear_access m a ≡ true → IsClearAccess m a
+  pub apart_is_clear : (m : Memory) (a : Access) → IsApartAccess m a → IsClearAccess m a

@@ -1,4 +1,4 @@
--- The moves of code whose accesses keep apart: those of the code, or the end at an access that isn't.
+-- The moves of code whose accesses are tested: those of the code, or the end at an access that doesn't pass.
 use Rattle.std.proofs.Common.{◌≡◌, ℕ, suc, ◌+◌, ◌*◌, ◌≤◌, ◌==◌, Bool, true, false, cond, List, [], ◌∷◌, Option, Some, None, refl, sym, ap, subst, arith}
 use Rattle.std.specs.List.{list_all}
 use Rattle.traces.specs.Trace.{Label, Turn, Unspecified, Move, Stand, Go, Halt, events, turns}
@@ -8,10 +8,9 @@ use Rattle.memory.specs.SystemCall.{Called, Ends, Gives, system_call}
 use Rattle.memory.specs.CallLaws.{CallLaws, is_own_end, IsPlainCall}
 use Rattle.x86_meaning.specs.Outcomes.{Way, Falls, JumpsBy, JumpsTo, Repeats, Calls}
 use Rattle.x86_meaning.specs.Step.{request_of}
-use Rattle.private_memory.specs.PrivateArea.{is_apart_access}
 use Rattle.named_code.specs.Items.{Item, CodeBlock}
 use Rattle.named_code.specs.Running.{CodeState, CodePoint, AtNumber, AtOld, Inside, CodePosition, after_call, onward, performed, goes_on, block_of_number, block_at, Marks, begun, move_at, code_next}
-use Rattle.named_code.specs.ApartRun.{first_accesses, items_found, items_at, turn_shown, turn_found, turn_at, all_apart, apart_next}
+use Rattle.named_code.specs.TestedRun.{AccessTest, first_accesses, items_found, items_at, turn_shown, turn_found, turn_at, all_pass, tested_next}
 use Rattle.named_code.specs.Weight.{step_cost, BoundsCode}
 use Rattle.named_code.specs.CodeRunLaws.{IsOncePoint, OncePosition}
 use Rattle.named_code.proofs.CodeMoves.{act_holds, next_small}
@@ -58,14 +57,15 @@ module _ (marks : Marks) (code : List CodeBlock) where
   no_event_at (AtOld a) = no_event_found marks (block_at a code)
   no_event_at (Inside items) = refl
 
+module _ (test : AccessTest) (marks : Marks) (code : List CodeBlock) where
   -- ---- what is seen of the machine's move by the test
-  pub is_apart_move : (p : CodePosition) → all_apart code p ≡ true → apart_next marks code p ≡ code_next marks code p
-  unfolding apart_next
-  is_apart_move p e = ap (λ b. cond b (code_next marks code p) (Halt (turn_at marks code p.point) Unspecified)) e
+  pub is_passing_move : (p : CodePosition) → all_pass test code p ≡ true → tested_next test marks code p ≡ code_next marks code p
+  unfolding tested_next
+  is_passing_move p e = ap (λ b. cond b (code_next marks code p) (Halt (turn_at marks code p.point) Unspecified)) e
 
-  pub is_apart_end : (p : CodePosition) → all_apart code p ≡ false → apart_next marks code p ≡ Halt (turn_at marks code p.point) Unspecified
-  unfolding apart_next
-  is_apart_end p e = ap (λ b. cond b (code_next marks code p) (Halt (turn_at marks code p.point) Unspecified)) e
+  pub is_failing_end : (p : CodePosition) → all_pass test code p ≡ false → tested_next test marks code p ≡ Halt (turn_at marks code p.point) Unspecified
+  unfolding tested_next
+  is_failing_end p e = ap (λ b. cond b (code_next marks code p) (Halt (turn_at marks code p.point) Unspecified)) e
 
   -- ---- a position with an access has an item, whose step begins the turn of the position
   module _ (calls : CallLaws) where
@@ -91,48 +91,48 @@ module _ (marks : Marks) (code : List CodeBlock) where
     point_step (AtOld a) s x rest e = found_step (block_at a code) s x rest e
     point_step (Inside items) s x rest e = items_step items s x rest e
 
-    pub reached_step : (p : CodePosition) → all_apart code p ≡ false → IsStepOf (turn_at marks code p.point) (code_next marks code p)
-    unfolding all_apart code_next
+    pub reached_step : (p : CodePosition) → all_pass test code p ≡ false → IsStepOf (turn_at marks code p.point) (code_next marks code p)
+    unfolding all_pass test code_next
     reached_step p e = cases (items_at code p.point) refl e
       where
-        cases : (xs : List Item) → items_at code p.point ≡ xs → list_all (is_apart_access p.state.memory) (first_accesses xs p.state) ≡ false → IsStepOf (turn_at marks code p.point) (move_at marks code p.point p.state)
+        cases : (xs : List Item) → items_at code p.point ≡ xs → list_all (test p.state.memory) (first_accesses xs p.state) ≡ false → IsStepOf (turn_at marks code p.point) (move_at marks code p.point p.state)
         cases [] is e = absurd cc
         cases (x ∷ rest) is e = point_step p.point p.state x rest is
 
     -- ---- what holds of the code's move holds of the machine's
-    apart_holds : (P : Move CodePosition → Type 0) (p : CodePosition) → P (code_next marks code p) → (IsStepOf (turn_at marks code p.point) (code_next marks code p) → P (Halt (turn_at marks code p.point) Unspecified)) → P (apart_next marks code p)
-    apart_holds P p h ends = cases (all_apart code p) refl
+    tested_holds : (P : Move CodePosition → Type 0) (p : CodePosition) → P (code_next marks code p) → (IsStepOf (turn_at marks code p.point) (code_next marks code p) → P (Halt (turn_at marks code p.point) Unspecified)) → P (tested_next test marks code p)
+    tested_holds P p h ends = cases (all_pass test code p) refl
       where
-        cases : (b : Bool) → all_apart code p ≡ b → P (apart_next marks code p)
-        cases true e = subst P (sym (is_apart_move p e)) h
-        cases false e = subst P (sym (is_apart_end p e)) (ends (reached_step p e))
+        cases : (b : Bool) → all_pass test code p ≡ b → P (tested_next test marks code p)
+        cases true e = subst P (sym (is_passing_move p e)) h
+        cases false e = subst P (sym (is_failing_end p e)) (ends (reached_step p e))
 
-    pub apart_event : (p : CodePosition) → OneEventStep (apart_next marks code p)
-    apart_event p = apart_holds OneEventStep p (next_small calls marks code p).event (λ step. rw (no_event_at p.point) (omega arith))
+    pub tested_event : (p : CodePosition) → OneEventStep (tested_next test marks code p)
+    tested_event p = tested_holds OneEventStep p (next_small calls marks code p).event (λ step. rw (no_event_at marks code p.point) (omega arith))
 
-    pub apart_own : (p : CodePosition) → EndsIn (λ e. is_own_end e ≡ true) (apart_next marks code p)
-    apart_own p = apart_holds (EndsIn (λ e. is_own_end e ≡ true)) p (next_small calls marks code p).own (λ step. refl)
+    pub tested_own : (p : CodePosition) → EndsIn (λ e. is_own_end e ≡ true) (tested_next test marks code p)
+    tested_own p = tested_holds (EndsIn (λ e. is_own_end e ≡ true)) p (next_small calls marks code p).own (λ step. refl)
 
     halts_paced : (w : ℕ) (left : CodePosition → ℕ) (l c : ℕ) (t : List Label) (m : Move CodePosition) → OneTurn t → IsStepOf t m → PacedMove w left l c m → PacedMove w left l c (Halt t Unspecified)
     halts_paced w left l c t (Stand ls e) one step h = absurd step
     halts_paced w left l c t (Go ls p) one step h = record { one_turn = one; left = subst (λ k. 0 + c ≤ l + w * k) step (omega (arith, h.left)) }
     halts_paced w left l c t (Halt ls e) one step h = record { one_turn = one; left = subst (λ k. 0 + c ≤ l + w * k) step (omega (arith, h.left)) }
 
-    pub apart_paced : (cost : Item → ℕ) (rest : ℕ → ℕ) (w : ℕ) → BoundsCode marks cost rest w code → (p : CodePosition) → IsOncePoint p.point
-        → PacedMove w (left_in calls marks cost rest w) (left_in calls marks cost rest w p) (step_cost cost code p) (apart_next marks code p)
-    apart_paced cost rest w bounds p once =
+    pub tested_paced : (cost : Item → ℕ) (rest : ℕ → ℕ) (w : ℕ) → BoundsCode marks cost rest w code → (p : CodePosition) → IsOncePoint p.point
+        → PacedMove w (left_in calls marks cost rest w) (left_in calls marks cost rest w p) (step_cost cost code p) (tested_next test marks code p)
+    tested_paced cost rest w bounds p once =
         let paced = next_paced calls marks cost rest w code bounds p once in
-        apart_holds (PacedMove w (left_in calls marks cost rest w) (left_in calls marks cost rest w p) (step_cost cost code p)) p paced
-        (λ step. halts_paced w (left_in calls marks cost rest w) _ _ (turn_at marks code p.point) (code_next marks code p) (one_turn_at p.point) step paced)
+        tested_holds (PacedMove w (left_in calls marks cost rest w) (left_in calls marks cost rest w p) (step_cost cost code p)) p paced
+        (λ step. halts_paced w (left_in calls marks cost rest w) _ _ (turn_at marks code p.point) (code_next marks code p) (one_turn_at marks code p.point) step paced)
 
-    pub apart_in_steps : (rest : ℕ → ℕ) (w : ℕ) → BoundsCode marks (λ x. 1) rest w code → (p : CodePosition) → IsOncePoint p.point
-        → PacedMove w (left_in calls marks (λ x. 1) rest w) (left_in calls marks (λ x. 1) rest w p) 1 (apart_next marks code p)
-    apart_in_steps rest w bounds p once =
+    pub tested_in_steps : (rest : ℕ → ℕ) (w : ℕ) → BoundsCode marks (λ x. 1) rest w code → (p : CodePosition) → IsOncePoint p.point
+        → PacedMove w (left_in calls marks (λ x. 1) rest w) (left_in calls marks (λ x. 1) rest w p) 1 (tested_next test marks code p)
+    tested_in_steps rest w bounds p once =
         let paced = next_in_steps calls marks rest w code bounds p once in
-        apart_holds (PacedMove w (left_in calls marks (λ x. 1) rest w) (left_in calls marks (λ x. 1) rest w p) 1) p paced
-        (λ step. halts_paced w (left_in calls marks (λ x. 1) rest w) _ _ (turn_at marks code p.point) (code_next marks code p) (one_turn_at p.point) step paced)
+        tested_holds (PacedMove w (left_in calls marks (λ x. 1) rest w) (left_in calls marks (λ x. 1) rest w p) 1) p paced
+        (λ step. halts_paced w (left_in calls marks (λ x. 1) rest w) _ _ (turn_at marks code p.point) (code_next marks code p) (one_turn_at marks code p.point) step paced)
 
-    pub apart_kept : (cost : Item → ℕ) (rest : ℕ → ℕ) (w : ℕ) → BoundsCode marks cost rest w code → IsKept (λ (i : OncePosition). i.position) (apart_next marks code)
-    apart_kept cost rest w bounds i =
-        to_once calls marks cost rest w code bounds (apart_next marks code i.position)
-        (apart_holds (To (λ p. IsOncePoint p.point)) i.position (next_once calls marks cost rest w code bounds i.position i.once) (λ step. tt))
+    pub tested_kept : (cost : Item → ℕ) (rest : ℕ → ℕ) (w : ℕ) → BoundsCode marks cost rest w code → IsKept (λ (i : OncePosition). i.position) (tested_next test marks code)
+    tested_kept cost rest w bounds i =
+        to_once calls marks cost rest w code bounds (tested_next test marks code i.position)
+        (tested_holds (To (λ p. IsOncePoint p.point)) i.position (next_once calls marks cost rest w code bounds i.position i.once) (λ step. tt))
