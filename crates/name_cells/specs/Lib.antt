@@ -8,4 +8,5 @@ pub mod MovedNames
 pub mod OwnSteps
 pub mod Living
 pub mod CellLaws
+pub mod PlacesCode
 pub mod SmallCode

@@ -92,7 +92,7 @@ module _ (test : AccessTest) (marks : Marks) (code : List CodeBlock) where
     point_step (Inside items) s x rest e = items_step items s x rest e
 
     pub reached_step : (p : CodePosition) → all_pass test code p ≡ false → IsStepOf (turn_at marks code p.point) (code_next marks code p)
-    unfolding all_pass test code_next
+    unfolding all_pass code_next
     reached_step p e = cases (items_at code p.point) refl e
       where
         cases : (xs : List Item) → items_at code p.point ≡ xs → list_all (test p.state.memory) (first_accesses xs p.state) ≡ false → IsStepOf (turn_at marks code p.point) (move_at marks code p.point p.state)

@@ -101,6 +101,11 @@ abbrev pub most : (Item → ℕ) → (ℕ → ℕ) → List Item → ℕ
 most cost left [] = 0
 most cost left (x ∷ xs) = cost x + most_behind (course_of x.instr) left (most cost left xs)
 
+-- ---- the cost of some items together
+abbrev pub items_cost : (Item → ℕ) → List Item → ℕ
+items_cost cost [] = 0
+items_cost cost (x ∷ xs) = cost x + items_cost cost xs
+
 -- ---- the cost of a step
 abbrev pub first_cost : (Item → ℕ) → List Item → ℕ
 first_cost cost [] = 0
