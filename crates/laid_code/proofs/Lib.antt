@@ -1,0 +1,4 @@
+mod Memories
+mod OwnPairs
+mod NextInstruction
+mod Acting
