@@ -2,3 +2,4 @@ mod Memories
 mod OwnPairs
 mod NextInstruction
 mod Acting
+mod Calling
