@@ -15,7 +15,7 @@ use Rattle.named_code.specs.CodeRun.{first_position, blocks_run}
 use Rattle.named_code.specs.Weight.{step_cost, BoundsCode}
 use Rattle.named_code.specs.CodeRunLaws.{OncePosition, CodeRunLaws}
 use Rattle.named_code.proofs.CodeMoves.{next_small}
-use Rattle.named_code.proofs.Courses.{way_is}
+use Rattle.named_code.proofs.Courses.{way_is, calls_is}
 use Rattle.named_code.proofs.Weighing.{left_in, next_paced, kept, next_in_steps}
 
 module _ (calls : CallLaws) (runs : RunLaws CodePosition) (moves : MoveLaws CodePosition) (invariants : InvariantLaws CodePosition OncePosition) where
@@ -56,4 +56,5 @@ module _ (calls : CallLaws) (runs : RunLaws CodePosition) (moves : MoveLaws Code
     paced = λ marks cost rest w code m entry esp0 stack left bounds. paced marks code m entry esp0 stack left cost rest w bounds;
     paced_in_steps = λ marks rest w code m entry esp0 stack left bounds. in_steps marks code m entry esp0 stack left rest w bounds;
     way = way_is;
+    calls = calls_is;
   }

@@ -8,12 +8,14 @@ use Rattle.traces.specs.Weight.{PacedBy, Paced, OneEvent}
 use Rattle.memory.specs.Memory.{Memory, with_stack}
 use Rattle.memory.specs.CallLaws.{is_own_end}
 use Rattle.x86_types.specs.declared.instr.Instr.{Instr}
+use Rattle.x86_types.specs.declared.instr.Instr.TheVariants.{Int80}
+use Rattle.x86_meaning.specs.Outcomes.{Calls}
 use Rattle.x86_meaning.specs.Registers.{Naming, Processor}
 use Rattle.x86_meaning.specs.Effect.{Effect, effect}
 use Rattle.named_code.specs.Items.{Item, CodeBlock}
 use Rattle.named_code.specs.Running.{CodePoint, AtNumber, AtOld, Inside, CodePosition, Marks, code_next}
 use Rattle.named_code.specs.CodeRun.{first_position, blocks_run}
-use Rattle.named_code.specs.Weight.{course_of, IsWayOf, IsOnce, step_cost, BoundsCode}
+use Rattle.named_code.specs.Weight.{Next, course_of, IsWayOf, IsOnce, step_cost, BoundsCode}
 
 -- at a jump, or within items none of which comes again at once
 abbrev pub IsOncePoint : CodePoint → Type 0
@@ -40,3 +42,5 @@ pub record CodeRunLaws : Type 0 where
   pub paced_in_steps : (marks : Marks) (rest : ℕ → ℕ) (w : ℕ) (code : List CodeBlock) (m : Memory) (entry esp0 : ℕ) (stack : List ℕ) (left : Environment) → BoundsCode marks (λ x. 1) rest w code → Paced w 0 (blocks_run marks code m entry esp0 stack left)
   -- the way of an effect is one of the course that is read off the instruction
   pub way : (v : Naming) (i : Instr) (n : ℕ) (cpu : Processor) (m : Memory) (e : Effect) → effect v i n cpu m ≡ Ok e → IsWayOf (course_of i) e.way
+  -- the next instruction follows through a call behind INT 80h alone
+  pub calls : (v : Naming) (i : Instr) (n : ℕ) (cpu : Processor) (m : Memory) (e : Effect) → effect v i n cpu m ≡ Ok e → course_of i ≡ Next → e.way ≡ Calls → i ≡ Int80
