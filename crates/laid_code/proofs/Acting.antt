@@ -4,7 +4,6 @@ use Rattle.std.proofs.lemmas.Bool.{and_parts, eqb-true, eqb-false}
 use Rattle.std.proofs.lemmas.List.Elements.{All-nil, All-cons, All-head, All-tail}
 use Rattle.traces.specs.Trace.{End, Move, Halt}
 use Rattle.memory.specs.Memory.{Memory, Stored, AccessKind, Load, Store, wrapped, store_all}
-use Rattle.memory.specs.MemoryLaws.{MemoryLaws}
 use Rattle.x86_types.specs.declared.operand.Reg.TheVariants.{Esp}
 use Rattle.x86_types.specs.declared.instr.Instr.{Instr}
 use Rattle.x86_meaning.specs.declared.stop.Stop.{Stop}
@@ -15,16 +14,16 @@ use Rattle.x86_meaning.specs.Outcomes.{Way}
 use Rattle.x86_meaning.specs.Effect.{Effect, accesses, effect}
 use Rattle.x86_meaning.specs.Step.{State, access_allowed, all_allowed, end_of, finish, step}
 use Rattle.x86_meaning.specs.Step as processor
-use Rattle.x86_meaning.specs.StepLaws.{StepLaws, stored_range, if_store, store_ranges}
-use Rattle.x86_meaning.specs.AccessLaws.{AccessLaws, SameLoads}
+use Rattle.x86_meaning.specs.StepLaws.{stored_range, if_store, store_ranges}
+use Rattle.x86_meaning.specs.AccessLaws.{SameLoads}
 use Rattle.private_memory.specs.PrivateArea.{is_unreserved, is_clear_access}
 use Rattle.field_places.specs.Fields.{fields}
 use Rattle.field_places.specs.Pairs.{ResultsAlike, EffectsAlike}
-use Rattle.field_places.specs.FieldPlaceLaws.{FieldPlaceLaws}
 use Rattle.named_code.specs.Items.{Item, own_item}
 use Rattle.named_code.specs.Running.{CodeState, CodePosition, onward, performed, by_stores, by_effect, by_loads, act}
 use Rattle.named_code.specs.Form.{IsStackless}
 use Rattle.laid_code.specs.LaidRun.{with_reserved}
+use Rattle.laid_code.proofs.Given.{Given}
 use Rattle.laid_code.proofs.Memories.{IsFree, IsUnreservedStore, clear_addresses, all_judged, loads_same, stores_same, stores_keep_kinds}
 use Rattle.laid_code.proofs.OwnPairs.{own_pairs, registers_alone, alone_below, which, paired, uses}
 use Rattle.laid_code.proofs.NextInstruction.{same_effect}
@@ -76,13 +75,7 @@ pub record GoAlike (first : Memory) (x : Item) (rest : List Item) (s : CodeState
   pub memory : (a : ℕ) → (processor.performed right u).memory a ≡ with_reserved first (performed left s).memory a
   pub free : IsFree (performed left s).memory
 
-pub record ActLaws : Type 0 where
-  pub field_places : FieldPlaceLaws
-  pub access : AccessLaws
-  pub memory : MemoryLaws
-  pub steps : StepLaws
-
-module _ (laws : ActLaws) (first : Memory) (i : Instr) (rest : List Item) (s : CodeState) (q len : ℕ) (free : IsFree s.memory) (no_esp : All (λ f. f.register ≢ Esp) (fields i)) (stackless : IsStackless i) where
+module _ (given : Given) (first : Memory) (i : Instr) (rest : List Item) (s : CodeState) (q len : ℕ) (free : IsFree s.memory) (no_esp : All (λ f. f.register ≢ Esp) (fields i)) (stackless : IsStackless i) where
   abbrev x : Item
   x = own_item i
 
@@ -102,20 +95,20 @@ module _ (laws : ActLaws) (first : Memory) (i : Instr) (rest : List Item) (s : C
   next_at = wrapped (q + len)
 
   same_made : made ≡ made'
-  same_made = laws.field_places.same_accesses own_pairs machine_naming machine_naming i s.cpu.regs u.cpu.regs (uses i s.cpu.regs no_esp stackless)
+  same_made = given.field_places.same_accesses own_pairs machine_naming machine_naming i s.cpu.regs u.cpu.regs (uses i s.cpu.regs no_esp stackless)
 
   module _ (clear : All (λ a. is_clear_access s.memory a ≡ true) made) where
     judged_as : (kind : AccessKind) → all_allowed kind made' u.memory ≡ all_allowed kind made s.memory
-    judged_as kind = ap (λ xs. all_allowed kind xs u.memory) (sym same_made) ∙ sym (all_judged first s.memory free laws.memory kind made clear)
+    judged_as kind = ap (λ xs. all_allowed kind xs u.memory) (sym same_made) ∙ sym (all_judged first s.memory free given.memory kind made clear)
 
     -- over the memory of the code, the effects are alike
     alike : ResultsAlike own_pairs s.cpu.regs u.cpu.regs (effect machine_naming i 0 s.cpu s.memory) (effect machine_naming i 0 u.cpu s.memory)
-    alike = laws.field_places.same_effect own_pairs machine_naming machine_naming i 0 s.cpu.flags s.cpu.regs u.cpu.regs s.memory (uses i s.cpu.regs no_esp stackless)
+    alike = given.field_places.same_effect own_pairs machine_naming machine_naming i 0 s.cpu.flags s.cpu.regs u.cpu.regs s.memory (uses i s.cpu.regs no_esp stackless)
 
     -- and so over the other, where the loads are allowed
     effect_as : all_allowed Load made s.memory ≡ true → effect machine_naming i next_at u.cpu u.memory ≡ effect machine_naming i 0 u.cpu s.memory
     effect_as all =
-        sym (laws.access.effect_by_loads machine_naming i next_at u.cpu s.memory u.memory (subst (λ xs. SameLoads xs s.memory u.memory) same_made (loads_same first s.memory free laws.memory made clear all)))
+        sym (given.access.effect_by_loads machine_naming i next_at u.cpu s.memory u.memory (subst (λ xs. SameLoads xs s.memory u.memory) same_made (loads_same first s.memory free given.memory made clear all)))
         ∙ same_effect machine_naming i next_at 0 u.cpu s.memory stackless
 
     abbrev BothMoves : Type 0
@@ -145,7 +138,7 @@ module _ (laws : ActLaws) (first : Memory) (i : Instr) (rest : List Item) (s : C
       stepped = stepped_by true false (Ok e) (judged_as Load ∙ all) (judged_as Store ∙ stores) (effect_as all ∙ is');
     })
     by_effects d e true all stores is is' h =
-        let unreserved = stores_of d.stores (subst AreUnreservedRanges (sym (laws.steps.stores_are_accesses machine_naming i 0 s.cpu s.memory d is)) (ranges_unreserved first s.memory free made clear stores)) in
+        let unreserved = stores_of d.stores (subst AreUnreservedRanges (sym (given.steps.stores_are_accesses machine_naming i 0 s.cpu s.memory d is)) (ranges_unreserved first s.memory free made clear stores)) in
         inr (record {
           left = d;
           right = e;
@@ -155,8 +148,8 @@ module _ (laws : ActLaws) (first : Memory) (i : Instr) (rest : List Item) (s : C
           registers = register h;
           esp = h.others_left 4 (λ b k. (which 4 b k).other refl);
           flags = h.flags;
-          memory = λ a. ap (λ ss. store_all ss u.memory a) (sym h.stores) ∙ stores_same laws.memory first s.memory u.memory d.stores unreserved (λ b. refl) a;
-          free = λ a r. stores_keep_kinds laws.memory first s.memory d.stores a ∙ free a r;
+          memory = λ a. ap (λ ss. store_all ss u.memory a) (sym h.stores) ∙ stores_same given.memory first s.memory u.memory d.stores unreserved (λ b. refl) a;
+          free = λ a r. stores_keep_kinds given.memory first s.memory d.stores a ∙ free a r;
         })
       where
         register : EffectsAlike own_pairs s.cpu.regs u.cpu.regs d e → (k : ℕ) → k < 8 → d.cpu.regs k ≡ e.cpu.regs k

@@ -1,5 +1,7 @@
+mod Given
 mod Memories
 mod OwnPairs
 mod NextInstruction
 mod Acting
 mod Calling
+mod Stepping

@@ -31,6 +31,10 @@ pub alone_below : (r : Registers) (k : ℕ) → k < 8 → registers_alone r k �
 unfolding registers_alone
 alone_below r k h = ap (λ b. cond b (r k) no_word) (lt-ltb k 8 h)
 
+pub alone_above : (r : Registers) (k : ℕ) → ltb k 8 ≡ false → registers_alone r k ≡ no_word
+unfolding registers_alone
+alone_above r k h = ap (λ b. cond b (r k) no_word) h
+
 -- ---- which pairs there are
 pub record IsOwn (a b : ℕ) : Type 0 where
   pub same : a ≡ b
