@@ -4,10 +4,11 @@ use Rattle.std.proofs.lemmas.Bool.{and_parts, eqb-true, eqb-false}
 use Rattle.std.proofs.lemmas.List.Elements.{All-nil, All-cons, All-head, All-tail}
 use Rattle.traces.specs.Trace.{End, Move, Halt}
 use Rattle.memory.specs.Memory.{Memory, Stored, AccessKind, Load, Store, wrapped, store_all}
+use Rattle.memory.specs.CallLaws.{is_own_end}
 use Rattle.x86_types.specs.declared.operand.Reg.TheVariants.{Esp}
 use Rattle.x86_types.specs.declared.instr.Instr.{Instr}
 use Rattle.x86_meaning.specs.declared.stop.Stop.{Stop}
-use Rattle.x86_meaning.specs.declared.stop.Stop.TheVariants.{MemoryFault}
+use Rattle.x86_meaning.specs.declared.stop.Stop.TheVariants.{MemoryFault, DivideFault, Unspecified}
 use Rattle.x86_meaning.specs.Registers.{Registers, machine_naming}
 use Rattle.x86_meaning.specs.Operands.{Access}
 use Rattle.x86_meaning.specs.Outcomes.{Way}
@@ -56,11 +57,17 @@ module _ (first l : Memory) (free : IsFree l) where
       range_unreserved a.kind a.at a.size (store_ranges xs) (All-head IsClear a xs clear) parts.0 (ranges_unreserved xs (All-tail IsClear a xs clear) parts.1)
 
 -- ---- both moves
+stop_own : (x : Stop) → is_own_end (end_of x) ≡ true
+stop_own MemoryFault = refl
+stop_own DivideFault = refl
+stop_own Unspecified = refl
+
 -- the same end, before anything is shown
 pub record EndAlike (x : Item) (rest : List Item) (s : CodeState) (len : ℕ) (u : State) : Type 0 where
   pub end : End
   pub coded : act x rest s ≡ Halt [] end
   pub stepped : step x.instr len u ≡ Halt [] end
+  pub own : is_own_end end ≡ true
 
 -- or effects that are alike
 pub record GoAlike (first : Memory) (x : Item) (rest : List Item) (s : CodeState) (len : ℕ) (u : State) : Type 0 where
@@ -128,6 +135,7 @@ module _ (given : Given) (first : Memory) (i : Instr) (rest : List Item) (s : Co
       end = end_of MemoryFault;
       coded = coded_by false (all_allowed Store made s.memory) Effects all refl refl;
       stepped = stepped_by false (all_allowed Store made' u.memory) (effect machine_naming i next_at u.cpu u.memory) (judged_as Load ∙ all) refl refl;
+      own = refl;
     })
 
     -- the stores fault, or both go on
@@ -136,6 +144,7 @@ module _ (given : Given) (first : Memory) (i : Instr) (rest : List Item) (s : Co
       end = end_of MemoryFault;
       coded = coded_by true false (Ok d) all stores is;
       stepped = stepped_by true false (Ok e) (judged_as Load ∙ all) (judged_as Store ∙ stores) (effect_as all ∙ is');
+      own = refl;
     })
     by_effects d e true all stores is is' h =
         let unreserved = stores_of d.stores (subst AreUnreservedRanges (sym (given.steps.stores_are_accesses machine_naming i 0 s.cpu s.memory d is)) (ranges_unreserved first s.memory free made clear stores)) in
@@ -167,6 +176,7 @@ module _ (given : Given) (first : Memory) (i : Instr) (rest : List Item) (s : Co
       end = end_of stop;
       coded = coded_by true (all_allowed Store made s.memory) (Err stop) all refl is;
       stepped = stepped_by true (all_allowed Store made' u.memory) (Err other) (judged_as Load ∙ all) refl (effect_as all ∙ is') ∙ ap (λ (e : Stop). Halt [] (end_of e)) (sym h);
+      own = stop_own stop;
     })
 
     pub both_moves : BothMoves

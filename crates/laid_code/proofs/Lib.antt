@@ -5,3 +5,4 @@ mod NextInstruction
 mod Acting
 mod Calling
 mod Stepping
+mod Moving
