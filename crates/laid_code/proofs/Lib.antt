@@ -6,3 +6,4 @@ mod Acting
 mod Calling
 mod Stepping
 mod Moving
+mod PlainItems
