@@ -7,3 +7,4 @@ mod Calling
 mod Stepping
 mod Moving
 mod PlainItems
+mod CallItems

@@ -56,23 +56,23 @@ module _ (given : Given) (l : Places) (code : Code) (blocks : List CodeBlock) (f
   alone_now = is_alone given first code s t states
 
   -- a move whose step over the registers alone settles
-  settled_met : (i : Instr) (len : ℕ) (m : Move CodePosition) (ls : List Label) (point : CodePoint) (s' : CodeState) (w : State) → code t.eip ≡ Some (i, len) → m ≡ Go ls (standing_at point s') → step i len u ≡ settled ls w → IsAlone first s' w → StandsAt l code blocks point w.eip → Met m
+  pub settled_met : (i : Instr) (len : ℕ) (m : Move CodePosition) (ls : List Label) (point : CodePoint) (s' : CodeState) (w : State) → code t.eip ≡ Some (i, len) → m ≡ Go ls (standing_at point s') → step i len u ≡ settled ls w → IsAlone first s' w → StandsAt l code blocks point w.eip → Met m
   settled_met i len m ls point s' w is goes steps h stands =
       let less = subst (λ x. MoveLessSpecified x (next code t)) steps (less_move given first code s t i len is states) in
       subst Met (sym goes) (goes_met given l code blocks first ls point s' w.eip t (goes_beside given first code ls s' w t h less) stands)
 
   -- or halts
-  halted_met : (i : Instr) (len : ℕ) (m : Move CodePosition) (e : End) → code t.eip ≡ Some (i, len) → m ≡ Halt [] e → step i len u ≡ Halt [] e → is_own_end e ≡ true → Met m
+  pub halted_met : (i : Instr) (len : ℕ) (m : Move CodePosition) (e : End) → code t.eip ≡ Some (i, len) → m ≡ Halt [] e → step i len u ≡ Halt [] e → is_own_end e ≡ true → Met m
   halted_met i len m e is halts steps own =
       let less = subst (λ x. MoveLessSpecified x (next code t)) steps (less_move given first code s t i len is states) in
       subst Met (sym halts) (ends_met given l code blocks first e t own (awake given l code blocks first t i len is) (ends_as given first code e t less))
 
   -- the place behind an instruction
-  behind : (i : Instr) (r : ℕ) (h : Stands code t.eip i r) → wrapped (t.eip + h.len) ≡ r
+  pub behind : (i : Instr) (r : ℕ) (h : Stands code t.eip i r) → wrapped (t.eip + h.len) ≡ r
   behind i r h = let a = h.after in let w = h.within in omega (arith, a, w)
 
   -- ---- an instruction behind which the next one follows
-  plain_met : (i : Instr) (r : ℕ) (rest : List Item) → Stands code t.eip i r → Inside_at rest r → All (λ f. f.register ≢ Esp) (fields i) → IsStackless i → course_of i ≡ Next → (i ≡ instr.Int80 → ⊥)
+  pub plain_met : (i : Instr) (r : ℕ) (rest : List Item) → Stands code t.eip i r → Inside_at rest r → All (λ f. f.register ≢ Esp) (fields i) → IsStackless i → course_of i ≡ Next → (i ≡ instr.Int80 → ⊥)
       → All (λ a. is_clear_access s.memory a ≡ true) (accesses machine_naming i s.cpu.regs) → Met (act (own_item i) rest s)
   unfolding finish
   plain_met i r rest stands inside no_esp stackless next_course other clear = by (both_moves given first i rest s t.eip stands.len states.memory.free no_esp stackless clear)
@@ -108,7 +108,7 @@ module _ (given : Given) (l : Places) (code : Code) (blocks : List CodeBlock) (f
   led : (r by to len : ℕ) → r ≡ t.eip + len → wrapped (r + by) ≡ to → wrapped (t.eip + len + by) ≡ to
   led r by to len e h = subst (λ x. wrapped (x + by) ≡ to) e h
 
-  jmp_met : (n r : ℕ) (rest : List Item) → Leads code t.eip instr.Jmp r (l.by_number n) → Contains numbers n → Met (act (own_item (instr.Jmp n)) rest s)
+  pub jmp_met : (n r : ℕ) (rest : List Item) → Leads code t.eip instr.Jmp r (l.by_number n) → Contains numbers n → Met (act (own_item (instr.Jmp n)) rest s)
   jmp_met n r rest h there =
       settled_met (instr.Jmp h.by) h.stands.len (act (own_item (instr.Jmp n)) rest s) [] (AtNumber n) s (at_address (t.eip + h.stands.len + h.by) u) h.stands.is (jmp_acts n rest) (given.steps.jump h.by h.stands.len u) (moved_alone _)
       (there, led r h.by (l.by_number n) h.stands.len h.stands.after h.leads)
@@ -136,7 +136,7 @@ module _ (given : Given) (l : Places) (code : Code) (blocks : List CodeBlock) (f
   jcc_steps c by len (Some true) e = rw e refl
   jcc_steps c by len (Some false) e = rw e refl
 
-  jcc_met : (c : Cond) (n r : ℕ) (rest : List Item) → Leads code t.eip (instr.Jcc c) r (l.by_number n) → Inside_at rest r → Contains numbers n → Met (act (own_item (instr.Jcc c n)) rest s)
+  pub jcc_met : (c : Cond) (n r : ℕ) (rest : List Item) → Leads code t.eip (instr.Jcc c) r (l.by_number n) → Inside_at rest r → Contains numbers n → Met (act (own_item (instr.Jcc c n)) rest s)
   jcc_met c n r rest h inside there = by (condition c s.cpu.flags) refl
     where
       by : (o : Option Bool) → condition c s.cpu.flags ≡ o → Met (act (own_item (instr.Jcc c n)) rest s)
