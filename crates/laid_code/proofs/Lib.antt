@@ -8,3 +8,4 @@ mod Stepping
 mod Moving
 mod PlainItems
 mod CallItems
+mod TableSteps
