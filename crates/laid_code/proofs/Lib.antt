@@ -9,3 +9,4 @@ mod Moving
 mod PlainItems
 mod CallItems
 mod TableSteps
+mod TableJumps
