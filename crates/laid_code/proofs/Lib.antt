@@ -10,3 +10,4 @@ mod PlainItems
 mod CallItems
 mod TableSteps
 mod TableJumps
+mod OldJumps
