@@ -11,3 +11,5 @@ mod CallItems
 mod TableSteps
 mod TableJumps
 mod OldJumps
+mod Finding
+mod Simulating
