@@ -193,3 +193,80 @@ module _ (given : Given) (l : Places) (code : Code) (blocks : List CodeBlock) (f
 
   unless_zero_met : (a K : ℕ) (m : Move CodePosition) (t : State) → Sim K m t → Sim K (marked_unless_zero a m) t
   unless_zero_met a K m t h = elim (a == 0) as (λ b. Sim K (cond b m (marked a m)) t) [ true ↦ h | false ↦ marked_met a K m t h ]
+
+  -- ---- where an access isn't clear, nothing is asked
+  module _ (layable : AreLayable blocks) (marks : Marks) where
+    excused : (ls : List Label) (K : ℕ) (t : State) → events ls ≡ [] → run (next code) t 0 ≡ seen [] None → Sim K (Halt ls trace.Unspecified) t
+    excused ls K t quiet rests =
+        (record { steps = 0; few = omega arith; fits = record { same_events = ap (λ x. events x.trace) rests ∙ sym quiet; same_end = λ defined. absurd (defined refl) } }, rests)
+
+    awake_there : (xs : List Item) (s : CodeState) (t : State) → Stand_there xs t → list_all (is_clear_access s.memory) (first_accesses xs s) ≡ false → run (next code) t 0 ≡ seen [] None
+    awake_there [] s t there fails = absurd (cc fails)
+    awake_there (x ∷ rest) s t there fails = let h = something_stands x.instr t.eip there.0.0 there.0.1 in awake given l code blocks first t h.instr h.len h.is
+
+    -- ---- a place to which a jump has come
+    -- its block lies there, or nothing stands there
+    abbrev FoundThere : Option CodeBlock → State → Type 0
+    FoundThere None t = code t.eip ≡ None
+    FoundThere (Some b) t = Stand_there b.items t
+
+    begun_met : (o : Option CodeBlock) (s : CodeState) (t : State) → FoundThere o t → AreStatesBeside first s t → All (λ a. is_clear_access s.memory a ≡ true) (first_accesses (items_found o) s) → Sim (entry_cost laid_steps o) (begun marks o s) t
+    begun_met None s t there states clear = nothing_met t there
+    begun_met (Some b) s t there states clear = unless_zero_met (marks b.number) (first_cost laid_steps b.items) (goes_on b.items s) t (items_met b.items s t there states clear)
+
+    found_awake : (o : Option CodeBlock) (s : CodeState) (t : State) → FoundThere o t → list_all (is_clear_access s.memory) (first_accesses (items_found o) s) ≡ false → run (next code) t 0 ≡ seen [] None
+    found_awake None s t there fails = absurd (cc fails)
+    found_awake (Some b) s t there fails = awake_there b.items s t there fails
+
+    number_found : (n : ℕ) (t : State) → Contains numbers n → t.eip ≡ l.by_number n → FoundThere (block_of_number n blocks) t
+    number_found n t named at = cases (block_of_number n blocks) refl
+      where
+        cases : (o : Option CodeBlock) → block_of_number n blocks ≡ o → FoundThere o t
+        cases None e = absurd (is_found n blocks named e)
+        cases (Some b) e = (subst (λ q. Lies l code q b.items) (sym at) (laid.numbers n b e), found_number (λ c. All (IsLayable numbers) c.items) n blocks b layable e)
+
+    old_found : (a : ℕ) (t : State) → t.eip ≡ place_of_old l a → FoundThere (block_at a blocks) t
+    old_found a t at = sides (is_outside l a) refl
+      where
+        placed : (o : Option CodeBlock) → block_at a blocks ≡ o → FoundAt l code t.eip o → FoundThere o t
+        placed None e h = h
+        placed (Some b) e h = (h, found_at (λ c. All (IsLayable numbers) c.items) a blocks b layable e)
+
+        at_place : (b : Bool) → is_outside l a ≡ b → t.eip ≡ cond b l.stop (l.by_address a)
+        at_place b e = at ∙ ap (λ x. cond x l.stop (l.by_address a)) e
+
+        or_parts : (x y : Bool) → (x || y) ≡ false → (x ≡ false) × (y ≡ false)
+        or_parts false y e = (refl, e)
+        or_parts true y e = absurd (cc e)
+
+        sides : (b : Bool) → is_outside l a ≡ b → FoundThere (block_at a blocks) t
+        sides true e = subst (λ o. FoundThere o t) (sym (laid.outside a e)) (subst (λ q. code q ≡ None) (sym (at_place true e)) laid.stops)
+        sides false e =
+            let parts = or_parts (ltb a l.span) (leb (l.span + l.count) a) e in
+            let h = laid.addresses a (ltb-false a l.span parts.0) (leb-false (l.span + l.count) a parts.1) in
+            placed (block_at a blocks) refl (subst (λ q. FoundAt l code q (block_at a blocks)) (sym (at_place false e)) h)
+
+    -- ---- a position
+
+    point_met : (point : CodePoint) (s : CodeState) (t : State) → StandsAt l code blocks point t.eip → AreStatesBeside first s t → All (λ a. is_clear_access s.memory a ≡ true) (first_accesses (items_at blocks point) s) → Sim (cost_at laid_steps blocks point) (move_at marks blocks point s) t
+    point_met (AtNumber n) s t stands states clear = begun_met (block_of_number n blocks) s t (number_found n t stands.0 stands.1) states clear
+    point_met (AtOld a) s t stands states clear = begun_met (block_at a blocks) s t (old_found a t stands) states clear
+    point_met (Inside items) s t stands states clear = items_met items s t stands states clear
+
+    point_awake : (point : CodePoint) (s : CodeState) (t : State) → StandsAt l code blocks point t.eip → list_all (is_clear_access s.memory) (first_accesses (items_at blocks point) s) ≡ false → run (next code) t 0 ≡ seen [] None
+    point_awake (AtNumber n) s t stands fails = found_awake (block_of_number n blocks) s t (number_found n t stands.0 stands.1) fails
+    point_awake (AtOld a) s t stands fails = found_awake (block_at a blocks) s t (old_found a t stands) fails
+    point_awake (Inside items) s t stands fails = awake_there items s t stands fails
+
+    pub position_met : (p : CodePosition) (t : State) → IsBeside l code blocks first p t → Sim (step_cost laid_steps blocks p) (tested_next is_clear_access marks blocks p) t
+    unfolding all_pass tested_next code_next
+    position_met p t h = cases (all_pass is_clear_access blocks p) refl
+      where
+        tested_by : (b : Bool) → all_pass is_clear_access blocks p ≡ b → tested_next is_clear_access marks blocks p ≡ cond b (code_next marks blocks p) (Halt (turn_at marks blocks p.point) trace.Unspecified)
+        tested_by b e = ap (λ x. cond x (code_next marks blocks p) (Halt (turn_at marks blocks p.point) trace.Unspecified)) e
+
+        cases : (b : Bool) → all_pass is_clear_access blocks p ≡ b → Sim (step_cost laid_steps blocks p) (tested_next is_clear_access marks blocks p) t
+        cases true e = subst (λ m. Sim (step_cost laid_steps blocks p) m t) (sym (tested_by true e)) (point_met p.point p.state t h.stands h.states (given.tested.passes_all is_clear_access blocks p e))
+        cases false e =
+            subst (λ m. Sim (step_cost laid_steps blocks p) m t) (sym (tested_by false e))
+            (excused (turn_at marks blocks p.point) (step_cost laid_steps blocks p) t (given.tested.turn_is_quiet marks blocks p.point) (point_awake p.point p.state t h.stands e))
