@@ -13,3 +13,4 @@ mod TableJumps
 mod OldJumps
 mod Finding
 mod Simulating
+pub mod Laid

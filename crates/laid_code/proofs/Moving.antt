@@ -35,7 +35,7 @@ use Rattle.named_code.specs.Form.{IsStackless}
 use Rattle.named_code.specs.TestedRun.{call_buffer, item_accesses}
 use Rattle.named_code.specs.Weight.{Course, Next, course_of, IsWayOf}
 use Rattle.laid_code.specs.Laid.{Places, Stands, Leads, Lies, IsLayable}
-use Rattle.laid_code.specs.LaidRun.{with_reserved, AreStatesBeside, StandsAt, IsBeside}
+use Rattle.laid_code.specs.LaidRun.{AreStatesBeside, StandsAt, IsBeside, BesidePair}
 use Rattle.laid_code.proofs.Given.{Given}
 use Rattle.laid_code.proofs.Memories.{IsFree}
 use Rattle.laid_code.proofs.Acting.{alone, EndAlike, GoAlike, both_moves}
@@ -85,13 +85,11 @@ is_step i len s = loads_step _ _ _ _ s
 
 module _ (given : Given) (l : Places) (code : Code) (blocks : List CodeBlock) (first : Memory) where
   -- ---- the pairs of the simulation
-  pub record BesidePair : Type 0 where
-    pub position : CodePosition
-    pub state : State
-    pub beside : IsBeside l code blocks first position state
+  abbrev Pair : Type 0
+  Pair = BesidePair (record { places = l; code = code; blocks = blocks; first = first })
 
   abbrev pub Related : CodePosition → State → Type 0
-  Related = Paired (λ (p : BesidePair). p.position) (λ (p : BesidePair). p.state)
+  Related = Paired (λ (p : Pair). p.position) (λ (p : Pair). p.state)
 
   abbrev pub Simulated : ℕ → Move CodePosition → State → Type 0
   Simulated K m t = Simulates (next code) Fits SameEvents Related K 0 m t

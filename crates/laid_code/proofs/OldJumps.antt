@@ -32,7 +32,7 @@ use Rattle.laid_code.specs.LaidRun.{AreStatesBeside, HasTable}
 use Rattle.laid_code.proofs.Given.{Given}
 use Rattle.laid_code.proofs.Acting.{alone, EndAlike, GoAlike, both_moves}
 use Rattle.laid_code.proofs.Stepping.{GoesBeside, less_move, goes_beside, ends_as}
-use Rattle.laid_code.proofs.Moving.{BesidePair, Simulated, awake, ends_met}
+use Rattle.laid_code.proofs.Moving.{Simulated, awake, ends_met}
 use Rattle.laid_code.proofs.TableSteps.{Holds, HoldsOn, Compared, less_in_span, lost_registers, sub_holds, cmp_holds, passes_holds, stops_holds, look_holds, jump_holds}
 use Rattle.laid_code.proofs.TableJumps.{takes, taken, jumped, moved, TakesWord, both_take, same_reads, fields_of_move}
 

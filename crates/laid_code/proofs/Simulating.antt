@@ -28,7 +28,7 @@ use Rattle.laid_code.specs.Laid.{Places, Stands, InstrStands, Lies, FoundAt, is_
 use Rattle.laid_code.specs.LaidRun.{AreStatesBeside, StandsAt, IsBeside, HasTable, instr_steps, laid_steps}
 use Rattle.laid_code.proofs.Given.{Given}
 use Rattle.laid_code.proofs.Finding.{found_number, found_at, is_found, all_front}
-use Rattle.laid_code.proofs.Moving.{BesidePair, Simulated, awake}
+use Rattle.laid_code.proofs.Moving.{Simulated, awake}
 use Rattle.laid_code.proofs.PlainItems.{plain_met, jmp_met, jcc_met}
 use Rattle.laid_code.proofs.CallItems.{call_met}
 use Rattle.laid_code.proofs.OldJumps.{jump_met}

@@ -48,6 +48,18 @@ pub record IsBeside (l : Places) (code : Code) (blocks : List CodeBlock) (first 
   pub stands : StandsAt l code blocks p.point t.eip
   pub states : AreStatesBeside first p.state t
 
+-- code that is laid, beside what stands at reserved addresses at first
+pub record LaidCode : Type 0 where
+  pub places : Places
+  pub code : Code
+  pub blocks : List CodeBlock
+  pub first : Memory
+
+pub record BesidePair (x : LaidCode) : Type 0 where
+  pub position : CodePosition
+  pub state : State
+  pub beside : IsBeside x.places x.code x.blocks x.first position state
+
 -- the table lies at reserved addresses, and can be read
 pub record HasTable (l : Places) (first : Memory) : Type 0 where
   pub words : (k : ℕ) → k < l.count → bytes_at first (l.table + 4 * k) 4 ≡ word_list (word_of (l.by_address (l.span + k)))
