@@ -7,3 +7,4 @@ pub mod Marks
 pub mod Relation
 pub mod SmallUnit
 pub mod States
+pub mod Words
