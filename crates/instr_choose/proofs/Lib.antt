@@ -14,6 +14,7 @@ pub mod SmallUnits
 pub mod Naming
 pub mod ChosenInstrs
 pub mod ChosenLists
+pub mod ChosenRows
 pub mod Forming
 pub mod Chosen
 pub mod Costing

@@ -2,6 +2,7 @@ pub mod Apart
 pub mod Blocks
 pub mod Choosing
 pub mod ChosenLaw
+pub mod ChosenRows
 pub mod Lists
 pub mod Marks
 pub mod Relation
