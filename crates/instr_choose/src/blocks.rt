@@ -54,7 +54,7 @@ fn choose_blocks(alloc: Global, unit: &[Block]) -> Result<VCode, AllocError>
 
 /// The named code of a lowered unit: a block for each of its blocks, with the same number and the same old address. The registers
 /// live in the names 0 to 7, the flags in 8 to 12, and the temporaries in those from 13 on. By turns it does what the unit does; it
-/// ends outside where the unit stops. Err where memory runs out.
+/// ends outside where the unit stops. It can be placed with its names in cells. Err where memory runs out.
 #[tactic(auto, using(crate::proofs::Chosen::of_blocks))]
 pub fn choose(alloc: Global, unit: &Unit) -> Result<VCode, AllocError>
     requires form { IsInForm unit.now }
