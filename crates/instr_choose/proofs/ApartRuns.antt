@@ -28,7 +28,7 @@ use Rattle.instr_choose.specs.Blocks.{choose_exit, choose_blocks}
 use Rattle.instr_choose.specs.Relation.{IsBelow, ListEnds, PassesTo, IsMetByList}
 use Rattle.instr_choose.specs.Marks.{marks_of}
 use Rattle.instr_choose.specs.States.{HasNoZero}
-use Rattle.named_code.specs.ApartRun.{first_accesses, items_found, items_at, position_accesses, turn_shown, turn_found, turn_at}
+use Rattle.named_code.specs.TestedRun.{first_accesses, items_found, items_at, position_accesses, turn_shown, turn_found, turn_at}
 use Rattle.instr_choose.specs.Apart.{UnitIsApart, StaysApart}
 use Rattle.instr_choose.proofs.Naming.{code_of, among, number_found, address_found, address_missing, mark_is}
 use Rattle.instr_choose.proofs.Beginnings.{Begins, same, turn}

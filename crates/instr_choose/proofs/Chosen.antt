@@ -5,10 +5,11 @@ use Rattle.flag_ir.specs.Form.{IsInForm}
 use Rattle.flag_ir.specs.Shape.{IsWellShaped}
 use Rattle.named_code.specs.declared.named.VBlock.{VBlock}
 use Rattle.instr_choose.specs.Blocks.{choose_blocks, UnitHasNames}
+use Rattle.instr_choose.specs.Words.{UnitFits}
 use Rattle.instr_choose.specs.Choosing.{Chooses}
 use Rattle.instr_choose.specs.ChosenLaw.{ChosenLaw}
 use Rattle.instr_choose.proofs.Naming.{names_kept}
-use Rattle.instr_choose.proofs.Forming.{in_form}
+use Rattle.instr_choose.proofs.Forming.{in_form, can_be_placed, few_names}
 use Rattle.instr_choose.proofs.Costing.{costs}
 use Rattle.instr_choose.proofs.Meets.{UnitLawsBelow}
 use Rattle.instr_choose.proofs.Starting.{keeps}
@@ -16,8 +17,10 @@ use Rattle.instr_choose.proofs.ApartRuns.{stays_apart}
 use Rattle.instr_choose.proofs.ApartRefines.{keeps_apart}
 
 pub chosen : UnitLawsBelow → ChosenLaw
-chosen laws u form shape low names = record {
-  form = in_form u form low names;
+chosen laws u form shape low names fits = record {
+  form = in_form laws.spelling u form low names fits;
+  placeable = can_be_placed laws.spelling u form low names fits;
+  names = few_names laws.spelling u form low names fits;
   ats = names_kept u.whole;
   keeps = keeps laws u (record { form = form; shape = shape; low = low });
   costs = costs u form low;
@@ -25,5 +28,5 @@ chosen laws u form shape low names = record {
   keeps_apart = keeps_apart laws u (record { form = form; shape = shape; low = low });
 }
 
-pub of_blocks : ChosenLaw → (u : CodeUnit) (code : List VBlock) → code ≡ choose_blocks u.whole → IsInForm u → IsWellShaped u → u.lowered ≡ true → UnitHasNames u → Chooses u code
-of_blocks law u code e form shape low names = subst (Chooses u) (sym e) (law u form shape low names)
+pub of_blocks : ChosenLaw → (u : CodeUnit) (code : List VBlock) → code ≡ choose_blocks u.whole → IsInForm u → IsWellShaped u → u.lowered ≡ true → UnitHasNames u → UnitFits u → Chooses u code
+of_blocks law u code e form shape low names fits = subst (Chooses u) (sym e) (law u form shape low names fits)

@@ -14,7 +14,7 @@ use Rattle.named_code.specs.Items.{Item, CodeBlock}
 use Rattle.named_code.specs.Running.{CodeState, CodePoint, AtNumber, AtOld, Inside, CodePosition, standing_at, after_call, onward, performed, by_stores, by_loads, act, goes_on, block_of_number, block_at, Marks, begun, code_next}
 use Rattle.instr_choose.specs.Relation.{PassesList, done, more, ListEnds, here, later}
 use Rattle.instr_choose.proofs.Beginnings.{IsStep, advances, halts, Begins, same, turn, RunEnds}
-use Rattle.named_code.specs.ApartRun.{turn_shown}
+use Rattle.named_code.specs.TestedRun.{turn_shown}
 
 -- ---- each item is a step
 called_steps : (c : Called) (rest : List Item) (s : CodeState) → IsStep (after_call c rest s)

@@ -31,11 +31,11 @@ use Rattle.named_code.specs.declared.slot.Slot.TheVariants.{Fixed}
 use Rattle.named_code.specs.declared.named.VInstr.{VInstr}
 use Rattle.named_code.specs.declared.named.VBlock.{VBlock}
 use Rattle.named_code.specs.Items.{Item, named_item, named_block}
-use Rattle.named_code.specs.Weight.{Next, Again, course_of, left_at, most_behind, most, IsOnce, IsBounded, BoundsCode}
+use Rattle.named_code.specs.Weight.{Next, Again, course_of, left_at, most_behind, most, items_cost, IsOnce, IsBounded, BoundsCode}
 use Rattle.instr_choose.specs.Lists.{slot_of, made, put, copy, alu_by, load_by, multiply_by, divide_by, store_by, width_of, is_of, by_alu, choose_calc, byte_dividend, byte_results, choose_divide, choose_store, choose_op, choose_ops}
 use Rattle.instr_choose.specs.Blocks.{choose_exit, choose_block, choose_blocks}
 use Rattle.instr_choose.specs.Marks.{marks_of, at_or_zero}
-use Rattle.instr_choose.specs.Choosing.{items_cost, chosen_costing, CostsAsUnit}
+use Rattle.instr_choose.specs.Choosing.{chosen_costing, CostsAsUnit}
 use Rattle.instr_choose.proofs.Naming.{code_of, code_blocks, there, among, index_is, found_number, mark_is}
 
 -- ---- behind each instruction of an operation the next one follows

@@ -12,6 +12,9 @@ pub mod Meeting
 pub mod Growing
 pub mod SmallUnits
 pub mod Naming
+pub mod ChosenInstrs
+pub mod ChosenLists
+pub mod ChosenRows
 pub mod Forming
 pub mod Chosen
 pub mod Costing

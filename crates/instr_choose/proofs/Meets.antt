@@ -30,17 +30,18 @@ use Rattle.private_memory.specs.PrivateAreaLaws.{PrivateAccessLaws}
 use Rattle.named_code.specs.Items.{Item, named_item}
 use Rattle.named_code.specs.Running.{CodeState, CodePoint, AtNumber, AtOld, Inside, CodePosition, standing_at}
 use Rattle.named_code.specs.CodeRunLaws.{CodeRunLaws}
-use Rattle.named_code.specs.ApartRunLaws.{ApartRunLaws}
+use Rattle.named_code.specs.TestedRunLaws.{TestedRunLaws}
 use Rattle.x86_values.specs.LessSpecified.{WordLessSpecified}
 use Rattle.instr_choose.specs.Lists.{choose_ops}
 use Rattle.instr_choose.specs.Blocks.{choose_exit}
 use Rattle.instr_choose.specs.Relation.{place_of_var, IsBelow, AreMetBy, ChoosingLaws}
 use Rattle.instr_choose.specs.Marks.{marks_of}
-use Rattle.named_code.specs.ApartRun.{turn_shown}
+use Rattle.named_code.specs.TestedRun.{turn_shown}
 use Rattle.instr_choose.specs.States.{LeadsTo, HasNoZero, ChosenPair}
 use Rattle.instr_choose.proofs.Below.{nothing}
 use Rattle.instr_choose.proofs.Choosing.{LawsBelow}
 use Rattle.instr_choose.proofs.Naming.{code_of, code_blocks, among, number_found, address_found, address_missing, mark_is}
+use Rattle.instr_choose.proofs.ChosenInstrs.{SpellingLaw}
 use Rattle.instr_choose.proofs.Forming.{begins}
 use Rattle.instr_choose.proofs.Beginnings.{IsStep, Begins, RunEnds, RunShows, step_rests, reach_go, reach_ends, reach_shows, begun_goes, begun_ends, begun_shows}
 use Rattle.instr_choose.proofs.UnitBlocks.{turn_of, block_goes, block_leaves, block_ends}
@@ -51,12 +52,13 @@ use Rattle.instr_choose.proofs.Exits.{step, code_at, ExitMeets, exit_meets}
 pub record UnitLawsBelow : Type 0 where
   pub below : LawsBelow
   pub choosing : ChoosingLaws
+  pub spelling : SpellingLaw
   pub memory : MemoryLaws
   pub area : PrivateAccessLaws
   pub meetings : MeetingLaws
   pub units : UnitLaws
   pub code : CodeRunLaws
-  pub apart : ApartRunLaws
+  pub tested : TestedRunLaws
   pub traces : TraceLaws
   pub unit_runs : RunLaws UnitState
   pub unit_moves : MoveLaws UnitState

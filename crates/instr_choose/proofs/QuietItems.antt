@@ -29,7 +29,7 @@ use Rattle.named_code.specs.declared.named.VInstr.{VInstr}
 use Rattle.named_code.specs.Items.{named_item, place_of}
 use Rattle.named_code.specs.Running.{CodeState}
 use Rattle.instr_choose.specs.Lists.{slot_of, made, put, copy, extend, copy_byte, alu_by, set_if, move_if, shift_by, multiply_by, divide_by, is_of, by_alu, choose_calc, byte_dividend, byte_results, choose_divide, choose_pick}
-use Rattle.named_code.specs.ApartRun.{item_accesses}
+use Rattle.named_code.specs.TestedRun.{item_accesses}
 
 -- in every state
 abbrev pub IsQuiet : VInstr → Type 0

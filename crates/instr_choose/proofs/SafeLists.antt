@@ -36,7 +36,7 @@ use Rattle.named_code.specs.Items.{Item, named_item, place_of}
 use Rattle.named_code.specs.Running.{CodeState, Inside, CodePosition, standing_at, act}
 use Rattle.instr_choose.specs.Lists.{slot_of, made, put, copy, load_by, store_by, width_of, choose_calc, choose_divide, choose_pick, choose_store, choose_system, choose_op}
 use Rattle.instr_choose.specs.Relation.{place_of_var, IsBelow}
-use Rattle.named_code.specs.ApartRun.{item_accesses}
+use Rattle.named_code.specs.TestedRun.{item_accesses}
 use Rattle.instr_choose.proofs.Accesses.{IsAddress, second_address, first_address, word_address, from_of}
 use Rattle.instr_choose.proofs.Items.{with_place, put_is, copy_is}
 use Rattle.instr_choose.proofs.Below.{scratch}

@@ -15,7 +15,7 @@ use Rattle.flag_ir.specs.Operations.{perform, performs, shown_by, shown_by_all}
 use Rattle.flag_ir.specs.Entering.{CodeUnit, Onward, blocks_of, leave}
 use Rattle.flag_ir.specs.UnitRun.{Before, Within, UnitState, state_at, performed, left_for, within, fresh, next}
 use Rattle.flag_ir.specs.UnitLaws.{UnitLaws}
-use Rattle.named_code.specs.ApartRun.{turn_shown}
+use Rattle.named_code.specs.TestedRun.{turn_shown}
 use Rattle.instr_choose.proofs.Beginnings.{IsStep, advances, halts, Begins, same, turn, RunEnds, step_rests, reach_go, reach_ends, begun_goes, begun_ends}
 
 -- the turn to which a block belongs

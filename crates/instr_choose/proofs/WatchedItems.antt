@@ -32,7 +32,7 @@ use Rattle.instr_choose.specs.Blocks.{choose_exit}
 use Rattle.instr_choose.specs.Relation.{IsBelow, PassesList, done, more, ListEnds, here, later}
 use Rattle.instr_choose.specs.Marks.{marks_of}
 use Rattle.instr_choose.specs.States.{LeadsTo, HasNoZero}
-use Rattle.named_code.specs.ApartRun.{item_accesses}
+use Rattle.named_code.specs.TestedRun.{item_accesses}
 use Rattle.instr_choose.specs.Apart.{HasUsedUnspecified}
 use Rattle.instr_choose.proofs.Items.{put_is}
 use Rattle.instr_choose.proofs.Below.{scratch}

@@ -13,7 +13,7 @@ use Rattle.named_code.specs.declared.named.VBlock.{VBlock}
 use Rattle.named_code.specs.Items.{named_blocks}
 use Rattle.named_code.specs.Running.{CodePosition, code_next}
 use Rattle.named_code.specs.CodeRun.{first_position}
-use Rattle.named_code.specs.ApartRun.{position_accesses, turn_at}
+use Rattle.named_code.specs.TestedRun.{position_accesses, turn_at}
 use Rattle.instr_choose.specs.Marks.{marks_of}
 
 -- ---- each access of each state that the unit's runs come to is apart from what the program mustn't reach

@@ -40,28 +40,28 @@ abbrev pub choose_blocks : List Block → List VBlock
 choose_blocks blocks = map choose_block blocks
 
 -- ---- the names of temporaries have cells: their numbers are below 1,400,000
-abbrev pub HasName : Var → Type 0
-HasName (var.Temp n) = n < 1400000
-HasName (var.Reg n) = Unit {0}
-HasName (var.Flag n) = Unit {0}
-HasName (var.Local n) = Unit {0}
+abbrev pub VarHasName : Var → Type 0
+VarHasName (var.Temp n) = n < 1400000
+VarHasName (var.Reg n) = Unit {0}
+VarHasName (var.Flag n) = Unit {0}
+VarHasName (var.Local n) = Unit {0}
 
 abbrev pub TermHasName : Term → Type 0
-TermHasName (term.Var v) = HasName v
+TermHasName (term.Var v) = VarHasName v
 TermHasName (term.Word n) = Unit {0}
 
 abbrev pub OpHasNames : Op → Type 0
-OpHasNames (op.Set to from) = HasName to × TermHasName from
-OpHasNames (op.Calc to calc left right) = HasName to × TermHasName left × TermHasName right
-OpHasNames (op.Forget to) = HasName to
-OpHasNames (op.Pick to test x y) = HasName to × TermHasName test × TermHasName x × TermHasName y
+OpHasNames (op.Set to from) = VarHasName to × TermHasName from
+OpHasNames (op.Calc to calc left right) = VarHasName to × TermHasName left × TermHasName right
+OpHasNames (op.Forget to) = VarHasName to
+OpHasNames (op.Pick to test x y) = VarHasName to × TermHasName test × TermHasName x × TermHasName y
 OpHasNames (op.Need from) = TermHasName from
-OpHasNames (op.Divide quotient remainder high low by size signed) = HasName quotient × HasName remainder × TermHasName high × TermHasName low × TermHasName by
-OpHasNames (op.Load to size at) = HasName to × TermHasName at
+OpHasNames (op.Divide quotient remainder high low by size signed) = VarHasName quotient × VarHasName remainder × TermHasName high × TermHasName low × TermHasName by
+OpHasNames (op.Load to size at) = VarHasName to × TermHasName at
 OpHasNames (op.Store size at from) = TermHasName at × TermHasName from
-OpHasNames (op.NearLoad to size at) = HasName to × TermHasName at
+OpHasNames (op.NearLoad to size at) = VarHasName to × TermHasName at
 OpHasNames (op.NearStore size at from) = TermHasName at × TermHasName from
-OpHasNames (op.Get to size offset) = HasName to
+OpHasNames (op.Get to size offset) = VarHasName to
 OpHasNames (op.Put size offset from) = TermHasName from
 OpHasNames op.System = Unit {0}
 OpHasNames op.NearSystem = Unit {0}

@@ -1,5 +1,5 @@
 -- What the code of a lowered unit promises. All of this is own.
-use Rattle.std.specs.Prelude.{ℕ, ◌+◌, List, [], ◌∷◌, map, None}
+use Rattle.std.specs.Prelude.{ℕ, ◌≤◌, List, map, None}
 use Rattle.outside.specs.Environment.{Environment, IsEnvironment}
 use Rattle.traces.specs.Turns.{RefinesByTurns}
 use Rattle.traces.specs.Agree.{outside_run}
@@ -15,7 +15,9 @@ use Rattle.named_code.specs.Items.{Item, named_item, named_blocks}
 use Rattle.named_code.specs.CodeRun.{named_run}
 use Rattle.named_code.specs.ApartRun.{apart_run}
 use Rattle.named_code.specs.Form.{IsCodeInForm}
-use Rattle.named_code.specs.Weight.{BoundsCode}
+use Rattle.named_code.specs.Weight.{items_cost, BoundsCode}
+use Rattle.name_cells.specs.Cells.{name_count}
+use Rattle.name_cells.specs.CanBePlaced.{CanBePlaced}
 use Rattle.instr_choose.specs.Marks.{HasNamesOf, marks_of}
 use Rattle.instr_choose.specs.Apart.{UnitIsApart, StaysApart}
 use Rattle.instr_choose.specs.Lists.{choose_op}
@@ -35,10 +37,6 @@ RefinesUnitApart u code =
     RefinesByTurns (outside_run (unit_run u m entry esp0 stack left)) (apart_run (marks_of u) code m entry esp0 stack left)
 
 -- ---- costs: an operation and an exit cost what their instructions cost
-abbrev pub items_cost : (Item → ℕ) → List Item → ℕ
-items_cost c [] = 0
-items_cost c (x ∷ xs) = c x + items_cost c xs
-
 abbrev pub chosen_costing : (Item → ℕ) → Costing
 chosen_costing c = record { op = λ o. items_cost c (map named_item (choose_op o)); exit = λ e. items_cost c (map named_item (choose_exit e)) }
 
@@ -48,6 +46,9 @@ CostsAsUnit u code = (c : Item → ℕ) (w : ℕ) (rest : Part → ℕ → ℕ) 
 
 pub record Chooses (u : CodeUnit) (code : List VBlock) : Type 0 where
   pub form : IsCodeInForm code
+  -- it can be placed with its names in cells, of which there are enough
+  pub placeable : CanBePlaced code
+  pub names : name_count code ≤ 1400013
   pub ats : HasNamesOf u code
   pub keeps : RefinesUnit u code
   pub costs : CostsAsUnit u code

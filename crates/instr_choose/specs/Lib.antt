@@ -2,8 +2,10 @@ pub mod Apart
 pub mod Blocks
 pub mod Choosing
 pub mod ChosenLaw
+pub mod ChosenRows
 pub mod Lists
 pub mod Marks
 pub mod Relation
 pub mod SmallUnit
 pub mod States
+pub mod Words

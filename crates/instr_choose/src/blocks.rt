@@ -5,6 +5,7 @@ ghost use Rattle.flag_ir.specs.Shape.{IsWellShaped};
 ghost use Rattle.instr_choose.specs.Blocks.{BlockHasNames, OpHasNames, UnitHasNames, choose_block, choose_blocks};
 ghost use Rattle.instr_choose.specs.Choosing.{Chooses};
 ghost use Rattle.instr_choose.specs.Lists.{choose_ops};
+ghost use Rattle.instr_choose.specs.Words.{BlockFits, OpFits};
 
 use crate::laws::chosen_law;
 use crate::operations::{choose_exit, choose_op};
@@ -15,7 +16,8 @@ use std::alloc::{AllocError, Global};
 #[tactic(auto, using(crate::proofs::Growing::choose_ops_none))]
 fn choose_ops(alloc: Global, ops: &[Op]) -> Result<Vec<VInstr>, AllocError>
     requires { All OpHasNames ops.now }
-    ensures { IfOk result (λ code. code.items ≡ choose_ops ops.now) }
+    ensures list { IfOk result (λ code. code.items ≡ choose_ops ops.now) }
+    ensures words { IfOk result (λ _. All OpFits ops.now) }
 {
     let mut code = Vec::new(alloc);
     for op in ops {
@@ -26,7 +28,8 @@ fn choose_ops(alloc: Global, ops: &[Op]) -> Result<Vec<VInstr>, AllocError>
 
 fn choose_block(alloc: Global, block: &Block) -> Result<VBlock, AllocError>
     requires { BlockHasNames block.now }
-    ensures { IfOk result (λ chosen. chosen ≡ choose_block block.now) }
+    ensures block { IfOk result (λ chosen. chosen ≡ choose_block block.now) }
+    ensures words { IfOk result (λ _. BlockFits block.now) }
 {
     let mut code = choose_ops(alloc, block.ops.as_slice())?;
     choose_exit(alloc, &mut code, block.exit)?;
@@ -37,10 +40,10 @@ fn choose_block(alloc: Global, block: &Block) -> Result<VBlock, AllocError>
     })
 }
 
-#[tactic(auto, using(crate::proofs::Growing::choose_blocks_more))]
 fn choose_blocks(alloc: Global, unit: &[Block]) -> Result<VCode, AllocError>
     requires { All BlockHasNames unit.now }
-    ensures { IfOk result (λ code. code ≡ choose_blocks unit.now) }
+    ensures blocks { IfOk result (λ code. code ≡ choose_blocks unit.now) }
+    ensures words { IfOk result (λ _. All BlockFits unit.now) }
 {
     let mut blocks = Vec::new(alloc);
     for block in unit {
@@ -51,7 +54,7 @@ fn choose_blocks(alloc: Global, unit: &[Block]) -> Result<VCode, AllocError>
 
 /// The named code of a lowered unit: a block for each of its blocks, with the same number and the same old address. The registers
 /// live in the names 0 to 7, the flags in 8 to 12, and the temporaries in those from 13 on. By turns it does what the unit does; it
-/// ends outside where the unit stops. Err where memory runs out.
+/// ends outside where the unit stops. It can be placed with its names in cells. Err where memory runs out.
 #[tactic(auto, using(crate::proofs::Chosen::of_blocks))]
 pub fn choose(alloc: Global, unit: &Unit) -> Result<VCode, AllocError>
     requires form { IsInForm unit.now }

@@ -1,6 +1,6 @@
 // The lists of calculations. Each function appends its list.
 ghost use Rattle.std.specs.Prelude.{◌≡◌, ◌++◌, OnOk};
-ghost use Rattle.instr_choose.specs.Blocks.{HasName, TermHasName};
+ghost use Rattle.instr_choose.specs.Blocks.{VarHasName, TermHasName};
 ghost use Rattle.instr_choose.specs.Lists.{by_alu, by_compare, by_multiply, by_shift, choose_calc, choose_pick};
 
 use crate::instrs::{alu_by, copy, move_if, multiply_by, put, set_if, shift_by};
@@ -19,7 +19,7 @@ fn by_alu(
     left: Term,
     right: Term,
 ) -> Result<(), AllocError>
-    requires to { HasName to }
+    requires to { VarHasName to }
     requires left { TermHasName left }
     requires right { TermHasName right }
     ensures { OnOk result (code.new.items ≡ code.old.items ++ by_alu op to left right) }
@@ -45,7 +45,7 @@ fn by_multiply(
     left: Term,
     right: Term,
 ) -> Result<(), AllocError>
-    requires to { HasName to }
+    requires to { VarHasName to }
     requires left { TermHasName left }
     requires right { TermHasName right }
     ensures { OnOk result (code.new.items ≡ code.old.items ++ by_multiply signed half to left right) }
@@ -65,7 +65,7 @@ fn by_shift(
     left: Term,
     right: Term,
 ) -> Result<(), AllocError>
-    requires to { HasName to }
+    requires to { VarHasName to }
     requires left { TermHasName left }
     requires right { TermHasName right }
     ensures { OnOk result (code.new.items ≡ code.old.items ++ by_shift op to left right) }
@@ -84,7 +84,7 @@ fn by_compare(
     left: Term,
     right: Term,
 ) -> Result<(), AllocError>
-    requires to { HasName to }
+    requires to { VarHasName to }
     requires left { TermHasName left }
     requires right { TermHasName right }
     ensures { OnOk result (code.new.items ≡ code.old.items ++ by_compare cond to left right) }
@@ -105,7 +105,7 @@ pub(crate) fn choose_calc(
     left: Term,
     right: Term,
 ) -> Result<(), AllocError>
-    requires to { HasName to }
+    requires to { VarHasName to }
     requires left { TermHasName left }
     requires right { TermHasName right }
     ensures { OnOk result (code.new.items ≡ code.old.items ++ choose_calc calc to left right) }
@@ -138,7 +138,7 @@ pub(crate) fn choose_pick(
     yes: Term,
     no: Term,
 ) -> Result<(), AllocError>
-    requires to { HasName to }
+    requires to { VarHasName to }
     requires test { TermHasName test }
     requires first { TermHasName yes }
     requires second { TermHasName no }

@@ -1,6 +1,6 @@
 // The lists of divisions. Each function appends its list.
 ghost use Rattle.std.specs.Prelude.{◌≡◌, ◌++◌, OnOk};
-ghost use Rattle.instr_choose.specs.Blocks.{HasName, TermHasName};
+ghost use Rattle.instr_choose.specs.Blocks.{VarHasName, TermHasName};
 ghost use Rattle.instr_choose.specs.Lists.{byte_dividend, byte_results, choose_divide, wide_operands};
 
 use crate::instrs::{copy, copy_byte, divide_by, extend, put, shift_by};
@@ -58,8 +58,8 @@ fn byte_results(
     quotient: Var,
     remainder: Var,
 ) -> Result<(), AllocError>
-    requires quotient { HasName quotient }
-    requires remainder { HasName remainder }
+    requires quotient { VarHasName quotient }
+    requires remainder { VarHasName remainder }
     ensures { OnOk result (code.new.items ≡ code.old.items ++ byte_results quotient remainder) }
 {
     let both = Slot::Fixed(Reg::Eax);
@@ -82,8 +82,8 @@ pub(crate) fn choose_divide(
     low: Term,
     by: Term,
 ) -> Result<(), AllocError>
-    requires quotient { HasName quotient }
-    requires remainder { HasName remainder }
+    requires quotient { VarHasName quotient }
+    requires remainder { VarHasName remainder }
     requires high { TermHasName high }
     requires low { TermHasName low }
     requires by { TermHasName by }

@@ -1,6 +1,6 @@
 // Single instructions with their slots, each appended to a list. The first register field is EAX, the second ECX.
 ghost use Rattle.std.specs.Prelude.{◌≡◌, [], ◌∷◌, ◌++◌, OnOk};
-ghost use Rattle.instr_choose.specs.Blocks.{HasName, TermHasName};
+ghost use Rattle.instr_choose.specs.Blocks.{VarHasName, TermHasName};
 ghost use Rattle.instr_choose.specs.Lists.{address_of, alu_by, based_on, at_word, copy, copy_byte, divide_by, extend, load_by, made, move_if, multiply_by, put, set_if, shift_by, source_of, store_by, with_source};
 
 use crate::names::slot_of;

@@ -4,9 +4,10 @@ ghost use Rattle.instr_choose.specs.Relation.{ChoosingLaws};
 
 use flag_ir::{UnitMeaning, unit_laws};
 use memory::{call_laws, less_specified_memory_laws, memory_laws};
-use named_code::{CodeMeaning, apart_laws, code_laws};
+use named_code::{CodeMeaning, code_laws, tested_laws};
 use private_memory::private_access_laws;
 use traces::{Family, meeting_laws, move_laws, run_laws, simulation_laws, trace_laws};
+use x86_grammar::spelled_fields_fit;
 use x86_values::{
     division_laws, less_specified_laws, logic_laws, product_laws, shift_laws, sum_laws, word_laws,
 };
@@ -53,12 +54,13 @@ pub(crate) fn chosen_law()
     less_specified_memory_laws();
     call_laws();
     choosing_laws();
+    spelled_fields_fit();
     memory_laws();
     private_access_laws();
     meeting_laws();
     unit_laws();
     code_laws();
-    apart_laws();
+    tested_laws();
     trace_laws();
     run_laws::<UnitMeaning>();
     move_laws::<UnitMeaning>();

@@ -8,8 +8,10 @@ mod instrs;
 mod laws;
 mod names;
 mod operations;
+mod rows;
 #[cfg(test)]
 mod tests;
 
 pub use blocks::choose;
 pub use laws::choosing_laws;
+pub use rows::worked_lists;

@@ -1,6 +1,6 @@
 // Where variables live.
 ghost use Rattle.std.specs.Prelude.{◌≡◌};
-ghost use Rattle.instr_choose.specs.Blocks.{HasName, TermHasName};
+ghost use Rattle.instr_choose.specs.Blocks.{VarHasName, TermHasName};
 ghost use Rattle.instr_choose.specs.Lists.{is_of, name_of, slot_of};
 
 use flag_ir::{Term, Var};
@@ -8,7 +8,7 @@ use named_code::Slot;
 
 /// The name of a variable: registers are the names 0 to 7, flags 8 to 12, and temporaries follow. A lowered unit has no locals.
 pub(crate) fn name_of(var: Var) -> u32
-    requires { HasName var }
+    requires { VarHasName var }
     ensures { result ≡ name_of var }
 {
     match var {
@@ -20,7 +20,7 @@ pub(crate) fn name_of(var: Var) -> u32
 }
 
 pub(crate) fn slot_of(var: Var) -> Slot
-    requires { HasName var }
+    requires { VarHasName var }
     ensures { result ≡ slot_of var }
 {
     Slot::Name(name_of(var))
@@ -28,7 +28,7 @@ pub(crate) fn slot_of(var: Var) -> Slot
 
 /// Whether a term is the variable.
 pub(crate) fn is_of(var: Var, term: Term) -> bool
-    requires variable { HasName var }
+    requires variable { VarHasName var }
     requires term { TermHasName term }
     ensures { result ≡ is_of var term }
 {

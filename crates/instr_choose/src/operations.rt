@@ -2,6 +2,7 @@
 ghost use Rattle.std.specs.Prelude.{◌≡◌, ◌++◌, OnOk};
 ghost use Rattle.instr_choose.specs.Blocks.{ExitHasNames, OpHasNames, TermHasName, choose_exit};
 ghost use Rattle.instr_choose.specs.Lists.{choose_op, choose_store, choose_system, width_of};
+ghost use Rattle.instr_choose.specs.Words.{ExitFits, OpFits};
 
 use crate::calculations::{choose_calc, choose_pick};
 use crate::divisions::choose_divide;
@@ -61,7 +62,8 @@ fn choose_system(alloc: Global, code: &mut Vec<VInstr>) -> Result<(), AllocError
 #[tactic(auto, unfolding(crate::specs::Lists::choose_op))]
 pub(crate) fn choose_op(alloc: Global, code: &mut Vec<VInstr>, op: Op) -> Result<(), AllocError>
     requires { OpHasNames op }
-    ensures { OnOk result (code.new.items ≡ code.old.items ++ choose_op op) }
+    ensures list { OnOk result (code.new.items ≡ code.old.items ++ choose_op op) }
+    ensures words { OpFits op }
 {
     match op {
         Op::Set { to, from } => put(alloc, code, slot_of(to), from),
@@ -112,7 +114,8 @@ pub(crate) fn choose_exit(
     exit: Exit,
 ) -> Result<(), AllocError>
     requires { ExitHasNames exit }
-    ensures { OnOk result (code.new.items ≡ code.old.items ++ choose_exit exit) }
+    ensures list { OnOk result (code.new.items ≡ code.old.items ++ choose_exit exit) }
+    ensures words { ExitFits exit }
 {
     let scratch = Slot::Fixed(Reg::Eax);
     match exit {

@@ -17,12 +17,13 @@ returns c =
         calls = c.call_laws.ensures;
       };
       choosing = c.choosing_laws.ensures;
+      spelling = c.spelled_fields_fit.ensures.fields;
       memory = c.memory_laws.ensures;
       area = c.private_access_laws.ensures;
       meetings = c.meeting_laws.ensures;
       units = c.unit_laws.ensures;
       code = c.code_laws.ensures;
-      apart = c.apart_laws.ensures;
+      tested = c.tested_laws.ensures;
       traces = c.trace_laws.ensures;
       unit_runs = c.run_laws.ensures;
       unit_moves = c.move_laws.ensures;
