@@ -14,3 +14,4 @@ mod OldJumps
 mod Finding
 mod Simulating
 pub mod Laid
+mod FirstMemories

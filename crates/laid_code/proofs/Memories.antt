@@ -27,7 +27,7 @@ abbrev can_store : Option (Bool × Bool) → Bool
 can_store None = false
 can_store (Some k) = k.0
 
-free_allows : (kind : AccessKind) (o : Option Place) → kind_of o ≡ Some (true, false) → allows kind o ≡ true
+pub free_allows : (kind : AccessKind) (o : Option Place) → kind_of o ≡ Some (true, false) → allows kind o ≡ true
 free_allows Load (Some p) h = refl
 free_allows Store (Some p) h = ap can_store h
 free_allows kind None h = absurd (cc h)
