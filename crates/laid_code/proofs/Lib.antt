@@ -15,3 +15,4 @@ mod Finding
 mod Simulating
 pub mod Laid
 mod FirstMemories
+pub mod Beginnings

@@ -1,4 +1,5 @@
 // The law of the definitions.
+ghost use Rattle.laid_code.specs.Beginning.{BeginningLaws};
 ghost use Rattle.laid_code.specs.LaidRun.{LaidLaws};
 
 use field_places::field_place_laws;
@@ -37,4 +38,22 @@ pub fn laid_laws()
     tested_laws();
     run_laws::<Meaning>();
     simulation_laws::<CodeMeaning, Meaning, Beside>();
+}
+
+/// Its clause says that the beginning of laid code comes in four steps to a state beside the first position of the code.
+pub fn beginning_laws()
+    ensures { BeginningLaws }
+{
+    word_laws();
+    less_specified_laws();
+    memory_laws();
+    less_specified_memory_laws();
+    call_laws();
+    step_laws();
+    monotone_laws();
+    access_laws();
+    field_place_laws();
+    code_laws();
+    tested_laws();
+    run_laws::<Meaning>();
 }
