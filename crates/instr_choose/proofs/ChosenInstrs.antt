@@ -1,14 +1,13 @@
 -- Each chosen instruction is in form and can be placed.
-use Rattle.std.proofs.Common.{◌≡◌, ◌≢◌, ◌↔◌, ℕ, ◌<◌, ◌≤◌, ◌==◌, ◌&&◌, Bool, true, false, is_some, List, [], ◌∷◌, map, length, All, Contains, inl, inr, refl, sym, ap, ◌∙◌, subst, arith}
+use Rattle.std.proofs.Common.{◌≡◌, ◌≢◌, ◌↔◌, ℕ, ◌<◌, ◌&&◌, Bool, true, false, is_some, List, [], ◌∷◌, map, length, All, Contains, inl, inr, refl, sym, ap, ◌∙◌, subst, arith}
 use Rattle.std.specs.List.{AllByRecursion, range_with_len}
 use Rattle.std.proofs.lemmas.Bool.{lt-ltb, eq-eqb}
 use Rattle.std.proofs.lemmas.List.Elements.{All-from_recursion}
 use Rattle.x86_types.specs.declared.operand.Reg.{Reg}
-use Rattle.x86_types.specs.declared.operand.Reg.TheVariants.{Eax, Ecx, Edx, Ebx}
+use Rattle.x86_types.specs.declared.operand.Reg.TheVariants.{Eax, Ecx, Ebx}
 use Rattle.x86_types.specs.declared.operand.Rm.TheVariants as rm
 use Rattle.x86_types.specs.declared.operation.AluOp.{AluOp}
 use Rattle.x86_types.specs.declared.operation.ShiftOp.{ShiftOp}
-use Rattle.x86_types.specs.declared.operation.ShiftOp.TheVariants as shiftop
 use Rattle.x86_types.specs.declared.operation.Count.TheVariants as count
 use Rattle.x86_types.specs.declared.operation.Cond.{Cond}
 use Rattle.x86_types.specs.declared.width.Width.{Width}
@@ -26,7 +25,7 @@ use Rattle.named_code.specs.declared.slot.Slot.TheVariants.{Fixed, Name}
 use Rattle.named_code.specs.declared.named.VInstr.{VInstr}
 use Rattle.named_code.specs.declared.named.VBlock.{VBlock}
 use Rattle.named_code.specs.Form.{register_fields, IsSlot, IsStackless, NamesBlock, IsInstrInForm}
-use Rattle.name_cells.specs.Holders.{last_name, is_last, name_or, has_byte_field, borrows_ebx}
+use Rattle.name_cells.specs.Holders.{last_name, is_last, has_byte_field, borrows_ebx}
 use Rattle.name_cells.specs.CanBePlaced.{IsPlaceable, FitsField, HasName, IsFieldPlaceable, IsFalling, LeavesEbx, IsInstrPlaceable}
 use Rattle.instr_choose.specs.Lists.{slot_of, made, put, copy, extend, copy_byte, alu_by, set_if, move_if, shift_by, multiply_by, divide_by, load_by, store_by}
 use Rattle.instr_choose.specs.Words.{IsWord}

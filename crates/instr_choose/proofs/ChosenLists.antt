@@ -1,5 +1,5 @@
 -- Each instruction of the list of an operation and of an exit is in form and can be placed.
-use Rattle.std.proofs.Common.{ℕ, ◌<◌, Bool, true, false, cond, List, [], ◌∷◌, length, All, arith}
+use Rattle.std.proofs.Common.{Bool, true, false, cond, List, [], ◌∷◌, length, All, arith}
 use Rattle.std.specs.List.{AllByRecursion}
 use Rattle.std.proofs.lemmas.List.Elements.{All-from_recursion, All-append, All-head, All-tail}
 use Rattle.x86_types.specs.declared.operand.Reg.{Reg}

@@ -1,5 +1,5 @@
 -- The words and block numbers that the text of a unit holds: below 2^32. All of this is own.
-use Rattle.std.specs.Prelude.{ℕ, ◌<◌, ◌^◌, List, All}
+use Rattle.std.specs.Prelude.{ℕ, ◌<◌, ◌^◌, All}
 use Rattle.flag_ir.specs.declared.variable.Term.{Term}
 use Rattle.flag_ir.specs.declared.variable.Term.TheVariants as term
 use Rattle.flag_ir.specs.declared.operation.Op.{Op}
