@@ -22,7 +22,7 @@ use Rattle.name_cells.specs.CanBePlaced.{IsInstrPlaceable, CanBePlaced}
 
 -- ---- the blocks have the same numbers and old addresses
 abbrev pub HasBlocksOf : List VBlock → Placed → Type 0
-HasBlocksOf code p = map (λ (b : PBlock). (b.number, b.at)) p.blocks ≡ map (λ (b : VBlock). (b.number, b.at)) code
+HasBlocksOf code p = map {B = ℕ × ℕ} (λ b. (b.number, b.at)) p.blocks ≡ map (λ b. (b.number, b.at)) code
 
 -- ---- over every usual memory, from every start, the placed code does by turns what the code does, where the code's accesses are apart;
 -- and then its own are clear
