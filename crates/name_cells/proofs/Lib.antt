@@ -10,3 +10,5 @@ pub mod OwnSteps
 pub mod Falling
 pub mod ItemsRun
 pub mod WholeInstrs
+pub mod Counting
+pub mod RenamedInstrs
