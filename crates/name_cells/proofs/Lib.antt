@@ -12,3 +12,4 @@ pub mod ItemsRun
 pub mod WholeInstrs
 pub mod Counting
 pub mod RenamedInstrs
+pub mod Forming
