@@ -9,7 +9,9 @@ pub mod MovedNames
 pub mod OwnSteps
 pub mod Falling
 pub mod ItemsRun
+pub mod NoNames
 pub mod WholeInstrs
 pub mod Counting
 pub mod RenamedInstrs
 pub mod Forming
+pub mod Costing

@@ -38,43 +38,8 @@ use Rattle.name_cells.proofs.CellMoves.{area_after, fetch_step, keep_step, fetch
 use Rattle.name_cells.proofs.MovedNames.{set_there, set_elsewhere, others, put_there, put_elsewhere, fetched_alike, kept_there, kept_elsewhere}
 use Rattle.name_cells.proofs.OwnSteps.{own_step}
 use Rattle.name_cells.proofs.Falling.{effect_falls}
+use Rattle.name_cells.proofs.NoNames.{NoNames, none_named, and_false, alone_is}
 use Rattle.name_cells.proofs.ItemsRun.{layout, fetched_memory, fetched_flags, fetched_left, kept_cpu, kept_left, lent, given, given_memory, given_flags, given_left, named_or_not, not_four, ebx_left, name_left, registers_after, cell_put, kept_memory, kept_area}
-
--- ---- slots without names
-abbrev NoNames : List Slot → Type 0
-NoNames slots = (n : ℕ) → HasName n slots → ⊥
-
-some_stays : (n : ℕ) (slots : List Slot) → is_some (fold name_or (Some n) slots) ≡ true
-some_stays n [] = refl
-some_stays n (Fixed r ∷ slots) = some_stays n slots
-some_stays n (Name m ∷ slots) = some_stays m slots
-
-none_named : (slots : List Slot) → is_some (fold name_or None slots) ≡ false → NoNames slots
-none_named [] e n h = h
-none_named (Fixed r ∷ slots) e n (inl f) = absurd (let g : is_name (Fixed r) ≡ is_name (Name n) = ap is_name f in cc)
-  where
-    is_name : Slot → Bool
-    is_name (Fixed r) = false
-    is_name (Name n) = true
-none_named (Fixed r ∷ slots) e n (inr h) = none_named slots e n h
-none_named (Name m ∷ slots) e n h = absurd (let g = some_stays m slots in cc)
-
-no_fetches : (byte : Bool) (last : Option ℕ) (slots : List Slot) → is_some (fold name_or None slots) ≡ false → flat_map (fetch_slot byte last) slots ≡ []
-no_fetches byte last [] e = refl
-no_fetches byte last (Fixed r ∷ slots) e = no_fetches byte last slots e
-no_fetches byte last (Name m ∷ slots) e = absurd (let g = some_stays m slots in cc)
-
-no_keeps : (byte : Bool) (last : Option ℕ) (slots : List Slot) → is_some (fold name_or None slots) ≡ false → flat_map (keep_slot byte last) slots ≡ []
-no_keeps byte last [] e = refl
-no_keeps byte last (Fixed r ∷ slots) e = no_keeps byte last slots e
-no_keeps byte last (Name m ∷ slots) e = absurd (let g = some_stays m slots in cc)
-
-and_false : (a b : Bool) → b ≡ false → (a && b) ≡ false
-and_false true b e = e
-and_false false b e = refl
-
-alone : (b : Bool) (count : ℕ) (fs : List PInstr) (o : PInstr) (ks : List PInstr) → b ≡ false → fs ≡ [] → ks ≡ [] → lend b count ++ (fs ++ o ∷ (ks ++ give_back b count)) ≡ o ∷ []
-alone b count fs o ks e f g = rw (e, f, g) refl
 
 module _ (runs : RunLaws CodePosition) (memories : MemoryLaws) (areas : PrivateAccessLaws) (fields : FieldPlaceLaws) (looks : AccessLaws) (steps : StepLaws) (marks : Marks) (code : List CodeBlock) (count : ℕ) (small : count ≤ 1540095) (x : VInstr) (placeable : IsInstrPlaceable x) (have : HaveCells count x.slots) (rest rest' : List Item) where
   abbrev byte : Bool
@@ -136,9 +101,6 @@ module _ (runs : RunLaws CodePosition) (memories : MemoryLaws) (areas : PrivateA
   module _ (s t : CodeState) (living : LiveInCells count s t) (miss : MissCells (accesses (naming_of x.slots) x.instr s.cpu.regs) s.memory) where
     -- ---- without names: the own item alone
     module _ (none : is_some (last_name x.slots) ≡ false) where
-      alone_is : place_instr count x ≡ own x ∷ []
-      alone_is = alone borrows count (fetches byte last x.slots) (own x) (keeps byte last x.slots) (and_false byte (is_some (last_name x.slots)) none) (no_fetches byte last x.slots none) (no_keeps byte last x.slots none)
-
       beside : StandsBeside x s t
       beside = record {
         registers = record { registers = λ k low below. living.registers k (omega (arith, low)); names = λ n h. absurd (none_named x.slots none n h) };
@@ -149,7 +111,7 @@ module _ (runs : RunLaws CodePosition) (memories : MemoryLaws) (areas : PrivateA
 
       start_is : code_next marks code (placed_start marks code count x rest rest' s t) ≡ act (placed_own x) rest' t
       unfolding code_next
-      start_is = ap (λ (is : List PInstr). code_next marks code (before_items (placed is ++ rest') t)) alone_is
+      start_is = ap (λ (is : List PInstr). code_next marks code (before_items (placed is ++ rest') t)) (alone_is count x none)
 
       single : RunAlike x rest rest' s t → ItemsRun marks code count x rest rest' s t
       single (inl e) = inl (record { end = e.end; named = e.named; steps = 0; position = placed_start marks code count x rest rest' s t; reaches = rests _; placed = start_is ∙ e.placed })
