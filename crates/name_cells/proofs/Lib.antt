@@ -10,8 +10,9 @@ pub mod OwnSteps
 pub mod Falling
 pub mod ItemsRun
 pub mod NoNames
-pub mod WholeInstrs
 pub mod Counting
 pub mod RenamedInstrs
+pub mod OwnAccesses
+pub mod WholeInstrs
 pub mod Forming
 pub mod Costing
