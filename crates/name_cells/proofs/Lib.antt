@@ -16,3 +16,4 @@ pub mod OwnAccesses
 pub mod WholeInstrs
 pub mod Forming
 pub mod Costing
+pub mod Calls
