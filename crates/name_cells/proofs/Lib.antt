@@ -17,3 +17,4 @@ pub mod WholeInstrs
 pub mod Forming
 pub mod Costing
 pub mod Calls
+pub mod CallWays

@@ -121,8 +121,10 @@ module _ (runs : RunLaws CodePosition) (memories : MemoryLaws) (areas : PrivateA
       single : RunAlike x rest rest' s t → ItemsRun marks code count x rest rest' s t
       single (inl e) = inl (record { end = e.end; named = e.named; steps = 0; position = placed_start marks code count x rest rest' s t; reaches = rests _; placed = start_is ∙ e.placed })
       single (inr g) = inr (inr (record {
+        alone = alone_is count x none;
         left = g.left;
         right = g.right;
+        is_left = g.is_left;
         same = g.effects.way;
         named = g.named;
         placed = start_is ∙ g.placed;

@@ -1,15 +1,15 @@
 -- Named code beside placed code whose names live in cells, before an instruction and after it. All of this is own.
-use Rattle.std.specs.Prelude.{◌≡◌, ◌⊎◌, ℕ, ◌+◌, ◌<◌, ◌≤◌, List, [], ◌++◌, map}
+use Rattle.std.specs.Prelude.{◌≡◌, ◌⊎◌, ℕ, ◌+◌, ◌<◌, ◌≤◌, List, [], ◌∷◌, ◌++◌, map, Ok}
 use Rattle.traces.specs.Trace.{End, Move, Go, Halt}
 use Rattle.traces.specs.Steps.{Reaches}
-use Rattle.x86_meaning.specs.Effect.{Effect}
+use Rattle.x86_meaning.specs.Effect.{Effect, effect}
 use Rattle.private_memory.specs.PrivateArea.{is_clear_access, HasPrivateArea}
 use Rattle.named_code.specs.declared.named.VInstr.{VInstr}
-use Rattle.named_code.specs.Items.{Item, CodeBlock, name_place, named_item, placed_item}
+use Rattle.named_code.specs.Items.{Item, CodeBlock, name_place, naming_of, named_item, placed_item}
 use Rattle.named_code.specs.Running.{CodeState, CodePosition, Inside, Marks, standing_at, act, onward, performed}
 use Rattle.named_code.specs.TestedRun.{tested_next}
 use Rattle.name_cells.specs.Cells.{homes_of}
-use Rattle.name_cells.specs.Placing.{place_instr}
+use Rattle.name_cells.specs.Placing.{own, place_instr}
 use Rattle.name_cells.specs.MovedNames.{StandsIn}
 use Rattle.name_cells.specs.OwnSteps.{SameButCells, placed_own}
 
@@ -56,8 +56,10 @@ module _ (marks : Marks) (code : List CodeBlock) (count : ℕ) (x : VInstr) (res
 
   -- an instruction without names: it has one item, and both go on the same way
   pub record ItemGoes : Type 0 where
+    pub alone : place_instr count x ≡ own x ∷ []
     pub left : Effect
     pub right : Effect
+    pub is_left : effect (naming_of x.slots) x.instr 0 s.cpu s.memory ≡ Ok left
     pub same : left.way ≡ right.way
     pub named : act (named_item x) rest s ≡ onward left.way (named_item x) rest (performed left s)
     pub placed : clear_next marks code placed_start ≡ onward right.way (placed_own x) rest' (performed right t)
