@@ -7,12 +7,7 @@ use Rattle.named_code.specs.declared.named.VInstr.{VInstr}
 use Rattle.named_code.specs.declared.named.VBlock.{VBlock}
 use Rattle.name_cells.specs.Cells.{counted_slot, counted_instr, counted_block, name_count}
 use Rattle.name_cells.specs.CanBePlaced.{IsPlaceable, HasName, IsInstrPlaceable, IsBlockPlaceable, CanBePlaced}
-use Rattle.name_cells.specs.MovedNames.{HaveCells}
-
--- an instruction that can be placed where so many names have cells
-pub record Fits (count : ℕ) (x : VInstr) : Type 0 where
-  pub placeable : IsInstrPlaceable x
-  pub names : HaveCells count x.slots
+use Rattle.name_cells.specs.CellPairs.{Fits}
 
 number_of : Slot → ℕ
 number_of (Fixed r) = 0

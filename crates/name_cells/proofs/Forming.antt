@@ -29,7 +29,8 @@ use Rattle.name_cells.specs.MovedNames.{HaveCells}
 use Rattle.name_cells.specs.Placing.{fetch_slot, keep_slot, fetches, keeps, own, lend, give_back, place_instr, place_instrs, place_block, cells_of}
 use Rattle.name_cells.specs.PlacesCode.{HasBlocksOf}
 use Rattle.name_cells.proofs.OwnItems.{IsUsable, at_usable, register_is}
-use Rattle.name_cells.proofs.Counting.{Fits, BlockFits, code_fits, count_small}
+use Rattle.name_cells.specs.CellPairs.{Fits}
+use Rattle.name_cells.proofs.Counting.{BlockFits, code_fits, count_small}
 use Rattle.name_cells.proofs.RenamedInstrs.{is_kept, fields_renamed}
 
 -- ---- the cells

@@ -18,3 +18,4 @@ pub mod Forming
 pub mod Costing
 pub mod Calls
 pub mod CallWays
+pub mod Beginnings
