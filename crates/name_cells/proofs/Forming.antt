@@ -31,6 +31,7 @@ use Rattle.name_cells.specs.PlacesCode.{HasBlocksOf}
 use Rattle.name_cells.proofs.OwnItems.{IsUsable, at_usable, register_is}
 use Rattle.name_cells.specs.CellPairs.{Fits}
 use Rattle.name_cells.proofs.Counting.{BlockFits, code_fits, count_small}
+use Rattle.name_cells.proofs.SomeItems.{some_placed}
 use Rattle.name_cells.proofs.RenamedInstrs.{is_kept, fields_renamed}
 
 -- ---- the cells
@@ -149,24 +150,8 @@ module _ (kept : SpellingIsKept) (code : List VBlock) (homes : List Home) (numbe
       (instrs_form xs (All-tail (Fits spare) x xs fit) (All-tail (IsInstrInForm code) x xs form))
 
   -- ---- a block
-  never_empty : (is bs : List PInstr) (p : PInstr) (es : List PInstr) → is ++ (bs ++ p ∷ es) ≢ []
-  never_empty [] [] p es e = absurd cc
-  never_empty [] (b ∷ bs) p es e = absurd cc
-  never_empty (i ∷ is) bs p es e = absurd cc
-
-  front_empty : (ps qs : List PInstr) → ps ++ qs ≡ [] → ps ≡ []
-  front_empty [] qs e = refl
-  front_empty (p ∷ ps) qs e = absurd cc
-
-  some_placed : (xs : List VInstr) → xs ≢ [] → place_instrs spare xs ≢ []
-  some_placed [] h e = h refl
-  some_placed (x ∷ xs) h e =
-      let byte = has_byte_field x.instr in
-      let last = last_name x.slots in
-      never_empty (lend (borrows_ebx x) spare) (fetches byte last x.slots) (own x) (keeps byte last x.slots ++ give_back (borrows_ebx x) spare) (front_empty (place_instr spare x) (place_instrs spare xs) e)
-
   block_form : (b : VBlock) → BlockFits spare b → IsBlockInForm code b → IsPBlockInForm homes numbers (place_block spare b)
-  block_form b fit form = record { items = instrs_form b.code fit form.instrs; begins = λ at. some_placed b.code (form.begins at) }
+  block_form b fit form = record { items = instrs_form b.code fit form.instrs; begins = λ at. some_placed spare b.code (form.begins at) }
 
 -- ---- the whole code
 number_kept : (spare : ℕ) (code : List VBlock) → map (λ (b : PBlock). b.number) (map (place_block spare) code) ≡ map (λ (b : VBlock). b.number) code

@@ -14,8 +14,10 @@ pub mod Counting
 pub mod RenamedInstrs
 pub mod OwnAccesses
 pub mod WholeInstrs
+pub mod SomeItems
 pub mod Forming
 pub mod Costing
 pub mod Calls
 pub mod CallWays
 pub mod Beginnings
+pub mod Meets

@@ -1,6 +1,6 @@
 -- The accesses of an own item are those of its instruction: they miss the cells where these are apart, and are clear.
 use Rattle.std.proofs.Common.{◌≡◌, ℕ, ◌<◌, true, List, [], ◌∷◌, ◌++◌, All, refl, sym, ap, ap₂, ◌∙◌, subst, arith}
-use Rattle.std.proofs.lemmas.List.Elements.{All-head, All-tail}
+use Rattle.std.proofs.lemmas.List.Elements.{All-nil, All-cons, All-head, All-tail}
 use Rattle.x86_values.specs.Words.{known}
 use Rattle.memory.specs.Memory.{Memory, kind_of, AreApart}
 use Rattle.memory.specs.MemoryLaws.{MemoryLaws}
@@ -71,14 +71,25 @@ module _ (pairs : Pairs) where
   buffer_alike instr.Nop s t h same = refl
 
 -- ---- accesses that are apart
-apart_misses : (m : Memory) (xs more : List Access) → All (IsApartAccess m) (xs ++ more) → MissCells xs m
-apart_misses m [] more h = tt
-apart_misses m (a ∷ xs) more h =
-    let first = All-head (IsApartAccess m) a (xs ++ more) h in
-    (λ allowed. record { apart = λ j k less small. (first.elsewhere allowed).names.apart j k less (omega (arith, small)) }, apart_misses m xs more (All-tail (IsApartAccess m) a (xs ++ more) h))
+apart_misses : (m : Memory) (xs : List Access) → All (IsApartAccess m) xs → MissCells xs m
+apart_misses m [] h = tt
+apart_misses m (a ∷ xs) h =
+    let first = All-head (IsApartAccess m) a xs h in
+    (λ allowed. record { apart = λ j k less small. (first.elsewhere allowed).names.apart j k less (omega (arith, small)) }, apart_misses m xs (All-tail (IsApartAccess m) a xs h))
+
+front_apart : (m : Memory) (xs more : List Access) → All (IsApartAccess m) (xs ++ more) → All (IsApartAccess m) xs
+front_apart m [] more h = All-nil (IsApartAccess m)
+front_apart m (a ∷ xs) more h = All-cons (IsApartAccess m) a xs (All-head (IsApartAccess m) a (xs ++ more) h) (front_apart m xs more (All-tail (IsApartAccess m) a (xs ++ more) h))
+
+rest_apart : (m : Memory) (xs more : List Access) → All (IsApartAccess m) (xs ++ more) → All (IsApartAccess m) more
+rest_apart m [] more h = h
+rest_apart m (a ∷ xs) more h = rest_apart m xs more (All-tail (IsApartAccess m) a (xs ++ more) h)
 
 pub item_misses : (x : VInstr) (s : CodeState) → All (IsApartAccess s.memory) (item_accesses (named_item x) s) → MissCells (accesses (naming_of x.slots) x.instr s.cpu.regs) s.memory
-item_misses x s h = apart_misses s.memory (accesses (naming_of x.slots) x.instr s.cpu.regs) (call_buffer x.instr s) h
+item_misses x s h = apart_misses s.memory _ (front_apart s.memory (accesses (naming_of x.slots) x.instr s.cpu.regs) (call_buffer x.instr s) h)
+
+pub buffer_misses : (x : VInstr) (s : CodeState) → All (IsApartAccess s.memory) (item_accesses (named_item x) s) → MissCells (call_buffer x.instr s) s.memory
+buffer_misses x s h = apart_misses s.memory (call_buffer x.instr s) (rest_apart s.memory (accesses (naming_of x.slots) x.instr s.cpu.regs) (call_buffer x.instr s) h)
 
 module _ (memories : MemoryLaws) (areas : PrivateAccessLaws) (fields : FieldPlaceLaws) (x : VInstr) (placeable : IsInstrPlaceable x) (s t : CodeState) (beside : StandsBeside x s t) where
   same_accesses : item_accesses (placed_own x) t ≡ item_accesses (named_item x) s
