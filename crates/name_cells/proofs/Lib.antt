@@ -21,3 +21,4 @@ pub mod Calls
 pub mod CallWays
 pub mod Beginnings
 pub mod Meets
+pub mod JumpsMeet

@@ -118,7 +118,7 @@ module _ (laws : CellLawsBelow) (code : List VBlock) (can : CanBePlaced code) (m
   abbrev On : CodePosition → CodePosition → Type 0
   On p q = OnBoth source target IsPair p q
 
-  abbrev Later : CodePosition → CodePosition → Type 0
+  abbrev pub Later : CodePosition → CodePosition → Type 0
   Later p q = EndLater laws.runs laws.meetings source target IsPair p q
 
   abbrev placed : List PInstr → List Item
@@ -150,7 +150,7 @@ module _ (laws : CellLawsBelow) (code : List VBlock) (can : CanBePlaced code) (m
       let ended = laws.runs.run_halt source p [] e g 0 in
       record { steps = 0; ended = has_ended _ [] e ended; steps' = n; fits = subst₂ SeenRefines (sym ended) (sym h) (laws.meetings.refines_itself (seen [] (Some e))) }
 
-  excused : (p q : CodePosition) → source p ≡ Halt [] Unspecified → Later p q
+  pub excused : (p q : CodePosition) → source p ≡ Halt [] Unspecified → Later p q
   excused p q g =
       let ended = laws.runs.run_halt source p [] Unspecified g 0 in
       record { steps = 0; ended = has_ended _ [] Unspecified ended; steps' = 0; fits = subst (λ (c : Seen). SeenRefines c (run target q 1)) (sym ended) (laws.meetings.refines_unspecified [] (run target q 1).trace (run target q 1).end) }
@@ -193,7 +193,7 @@ module _ (laws : CellLawsBelow) (code : List VBlock) (can : CanBePlaced code) (m
     abbrev q : CodePosition
     q = before_items (placed (place_instr count x) ++ placed (place_instrs count xs)) t
 
-    items_met : source p ≡ act (named_item x) (map named_item xs) s → All (IsApartAccess s.memory) (item_accesses (named_item x) s) → ItemsRun marks (placed_blocks (cells_of code)) count x (map named_item xs) (placed (place_instrs count xs)) s t → On p q ⊎ Later p q
+    pub items_met : source p ≡ act (named_item x) (map named_item xs) s → All (IsApartAccess s.memory) (item_accesses (named_item x) s) → ItemsRun marks (placed_blocks (cells_of code)) count x (map named_item xs) (placed (place_instrs count xs)) s t → On p q ⊎ Later p q
     items_met g apart (inl i) =
         let after : i.steps + 1 ≡ suc i.steps = omega arith in
         let ends : run target q (suc i.steps) ≡ seen [] (Some i.end)
