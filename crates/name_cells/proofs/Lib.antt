@@ -22,3 +22,5 @@ pub mod CallWays
 pub mod Beginnings
 pub mod Meets
 pub mod JumpsMeet
+pub mod ShortTurns
+pub mod Starting
