@@ -106,7 +106,7 @@ written_way size (InRegister p i) w e = refl
 written_way size (InMemory at) w e = refl
 written_way size (Constant n) w e = refl
 
-all_way : (os : List SizedOperand) (ws : List Word) (e : Effect) → (all_written os ws e).way ≡ e.way
+pub all_way : (os : List SizedOperand) (ws : List Word) (e : Effect) → (all_written os ws e).way ≡ e.way
 all_way [] ws e = refl
 all_way (o ∷ os) [] e = refl
 all_way (o ∷ os) (w ∷ ws) e = all_way os ws (written_to o.size o.location w e) ∙ written_way o.size o.location w e

@@ -77,7 +77,7 @@ module _ (x : VInstr) where
   low_paired (suc (suc (suc (suc n)))) low below = absurd (omega (arith, low))
 
   -- ---- slots that fields can have
-  abbrev IsUsable : Slot → Type 0
+  abbrev pub IsUsable : Slot → Type 0
   IsUsable (Fixed r) = (number_of_reg r < 4) × (borrows_ebx x ≡ true → r ≢ Ebx)
   IsUsable (Name n) = HasName n x.slots
 
@@ -96,7 +96,7 @@ module _ (x : VInstr) where
   not_ebx r h e = let f : number_of_reg r ≡ 3 = ap number_of_reg e in omega arith
 
   module _ (h : IsInstrPlaceable x) where
-    at_usable : (r : Reg) → number_of_reg r < 3 → IsUsable (slot_at x.slots r)
+    pub at_usable : (r : Reg) → number_of_reg r < 3 → IsUsable (slot_at x.slots r)
     at_usable r low = by (slice_get x.slots (number_of_reg r)) refl
       where
         by : (o : Option Slot) → slice_get x.slots (number_of_reg r) ≡ o → IsUsable (slot_or r o)
@@ -104,7 +104,7 @@ module _ (x : VInstr) where
         by (Some s) e = got_usable x.slots (number_of_reg r) s e h.slots (λ b. (h.ebx b).slots) (λ n g. g)
 
     -- the register of an early field is that of its slot
-    register_is : (r : Reg) → number_of_reg r < 3 → register_of (field_registers byte x.slots) r ≡ slot_register byte last (slot_at x.slots r)
+    pub register_is : (r : Reg) → number_of_reg r < 3 → register_of (field_registers byte x.slots) r ≡ slot_register byte last (slot_at x.slots r)
     register_is Eax low = refl
     register_is Ecx low = refl
     register_is Edx low = refl

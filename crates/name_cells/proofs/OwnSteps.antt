@@ -29,7 +29,7 @@ use Rattle.name_cells.specs.OwnSteps.{MissCells, SameButCells, StandsBeside, pla
 use Rattle.name_cells.proofs.OwnItems.{own_accesses, own_effect}
 
 -- what is stored misses the cells
-abbrev RangesMiss : List (ℕ × ℕ) → Type 0
+abbrev pub RangesMiss : List (ℕ × ℕ) → Type 0
 RangesMiss [] = Unit {0}
 RangesMiss (p ∷ ps) = AreApart p.0 p.1 0x75220000 0x5E0000 × RangesMiss ps
 
@@ -71,18 +71,18 @@ module _ (memories : MemoryLaws) where
       let inside : IsWithin (cell_at n) 4 0x75220000 0x5E0000 = memories.within_in_order (cell_at n) 4 0x75220000 0x5E0000 (omega arith) (omega (arith, low)) in
       record { apart = λ j k less small e. let w = inside.within j less in h.apart k w.0 small w.1 (sym e ∙ w.2) }
 
-  cells_stay : (ss : List Stored) (m : Memory) (n : ℕ) (w : Word) → n < 1540096 → RangesMiss (map stored_range ss) → StandsIn m n w → StandsIn (store_all ss m) n w
+  pub cells_stay : (ss : List Stored) (m : Memory) (n : ℕ) (w : Word) → n < 1540096 → RangesMiss (map stored_range ss) → StandsIn m n w → StandsIn (store_all ss m) n w
   cells_stay [] m n w low h c = c
   cells_stay (s ∷ ss) m n w low h c = cells_stay ss (put_all s.at s.bytes m) n w low h.1 (memories.bytes_elsewhere s.at s.bytes m (cell_at n) 4 (cell_apart n s.at (length s.bytes) low h.0) ∙ c)
 
-  same_after : (ss : List Stored) (l m : Memory) → SameButCells l m → SameButCells (store_all ss l) (store_all ss m)
+  pub same_after : (ss : List Stored) (l m : Memory) → SameButCells l m → SameButCells (store_all ss l) (store_all ss m)
   same_after [] l m h = h
   same_after (s ∷ ss) l m h = same_after ss _ _ (record {
     outside = memories.same_outside_put 0x75220000 0x5E0000 s.at s.bytes l m h.outside;
     kinds = λ a. memories.put_all_keeps_kinds s.at s.bytes l a ∙ h.kinds a ∙ sym (memories.put_all_keeps_kinds s.at s.bytes m a);
   })
 
-  area_stays : (ss : List Stored) (m : Memory) → HasPrivateArea m → HasPrivateArea (store_all ss m)
+  pub area_stays : (ss : List Stored) (m : Memory) → HasPrivateArea m → HasPrivateArea (store_all ss m)
   area_stays [] m h = h
   area_stays (s ∷ ss) m h = area_stays ss (put_all s.at s.bytes m) (record {
     zero = unmapped _ (memories.put_all_keeps_kinds s.at s.bytes m 0 ∙ ap kind_of h.zero);

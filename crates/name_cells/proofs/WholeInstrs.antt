@@ -1,5 +1,5 @@
 -- An instruction's items run as the instruction does: with names, and without.
-use Rattle.std.proofs.Common.{◌≡◌, ◌≢◌, ◌⊎◌, inl, inr, ℕ, suc, ◌+◌, ◌<◌, ◌≤◌, ◌==◌, ◌&&◌, Bool, true, false, is_some, List, [], ◌∷◌, ◌++◌, map, flat_map, fold, length, Option, Some, None, refl, sym, ap, ◌∙◌, subst, arith}
+use Rattle.std.proofs.Common.{◌≡◌, ◌≢◌, ◌⊎◌, inl, inr, ℕ, suc, ◌+◌, ◌<◌, ◌≤◌, ◌==◌, ◌&&◌, Bool, true, false, is_some, List, [], ◌∷◌, ◌++◌, map, flat_map, fold, length, All, Option, Some, None, refl, sym, ap, ◌∙◌, subst, arith}
 use Rattle.std.proofs.lemmas.Bool.Decides.{eqb_tells}
 use Rattle.traces.specs.Trace.{Go}
 use Rattle.traces.specs.Steps.{Reaches, rests, goes}
@@ -15,7 +15,7 @@ use Rattle.x86_meaning.specs.Outcomes.{Way, Falls}
 use Rattle.x86_meaning.specs.Effect.{Effect, accesses}
 use Rattle.x86_meaning.specs.StepLaws.{StepLaws}
 use Rattle.x86_meaning.specs.AccessLaws.{AccessLaws}
-use Rattle.private_memory.specs.PrivateArea.{HasPrivateArea}
+use Rattle.private_memory.specs.PrivateArea.{IsApartAccess, HasPrivateArea}
 use Rattle.private_memory.specs.PrivateAreaLaws.{PrivateAccessLaws}
 use Rattle.field_places.specs.Pairs.{EffectsAlike}
 use Rattle.field_places.specs.FieldPlaceLaws.{FieldPlaceLaws}
@@ -24,7 +24,9 @@ use Rattle.named_code.specs.declared.slot.Slot.TheVariants.{Fixed, Name}
 use Rattle.named_code.specs.declared.named.VInstr.{VInstr}
 use Rattle.named_code.specs.declared.placed.PInstr.{PInstr}
 use Rattle.named_code.specs.Items.{Item, CodeBlock, name_place, named_item, placed_item, naming_of}
-use Rattle.named_code.specs.Running.{CodeState, CodePosition, Marks, act, onward, performed, code_next}
+use Rattle.named_code.specs.Running.{CodeState, CodePosition, Marks, act, onward, performed}
+use Rattle.named_code.specs.TestedRun.{item_accesses}
+use Rattle.named_code.specs.TestedRunLaws.{TestedRunLaws}
 use Rattle.name_cells.specs.Cells.{cell_at, homes_of}
 use Rattle.name_cells.specs.Holders.{has_byte_field, name_or, last_name, is_last, holder, borrows_ebx}
 use Rattle.name_cells.specs.Placing.{fetch_slot, keep_slot, fetches, keeps, own, lend, give_back, place_instr}
@@ -32,51 +34,17 @@ use Rattle.name_cells.specs.CanBePlaced.{HasName, IsInstrPlaceable}
 use Rattle.name_cells.specs.Pairs.{pairs_of}
 use Rattle.name_cells.specs.MovedNames.{StandsIn, with_fetched, with_kept, HaveCells}
 use Rattle.name_cells.specs.OwnSteps.{MissCells, SameButCells, StandsBeside, placed_own, GoAlike, RunAlike}
-use Rattle.name_cells.specs.Living.{before_items, LiveInCells, placed_start, ItemsFall, ItemsRun}
+use Rattle.name_cells.specs.Living.{clear_next, before_items, LiveInCells, placed_start, ItemsFall, ItemsRun}
 use Rattle.name_cells.proofs.OwnItems.{name_paired}
-use Rattle.name_cells.proofs.CellMoves.{area_after, fetch_step, keep_step, fetches_run, keeps_run}
+use Rattle.name_cells.proofs.CellMoves.{area_after, clear_step, fetch_step, keep_step, fetches_run, keeps_run}
 use Rattle.name_cells.proofs.MovedNames.{set_there, set_elsewhere, others, put_there, put_elsewhere, fetched_alike, kept_there, kept_elsewhere}
 use Rattle.name_cells.proofs.OwnSteps.{own_step}
 use Rattle.name_cells.proofs.Falling.{effect_falls}
+use Rattle.name_cells.proofs.OwnAccesses.{item_misses, own_clear}
+use Rattle.name_cells.proofs.NoNames.{NoNames, none_named, and_false, alone_is}
 use Rattle.name_cells.proofs.ItemsRun.{layout, fetched_memory, fetched_flags, fetched_left, kept_cpu, kept_left, lent, given, given_memory, given_flags, given_left, named_or_not, not_four, ebx_left, name_left, registers_after, cell_put, kept_memory, kept_area}
 
--- ---- slots without names
-abbrev NoNames : List Slot → Type 0
-NoNames slots = (n : ℕ) → HasName n slots → ⊥
-
-some_stays : (n : ℕ) (slots : List Slot) → is_some (fold name_or (Some n) slots) ≡ true
-some_stays n [] = refl
-some_stays n (Fixed r ∷ slots) = some_stays n slots
-some_stays n (Name m ∷ slots) = some_stays m slots
-
-none_named : (slots : List Slot) → is_some (fold name_or None slots) ≡ false → NoNames slots
-none_named [] e n h = h
-none_named (Fixed r ∷ slots) e n (inl f) = absurd (let g : is_name (Fixed r) ≡ is_name (Name n) = ap is_name f in cc)
-  where
-    is_name : Slot → Bool
-    is_name (Fixed r) = false
-    is_name (Name n) = true
-none_named (Fixed r ∷ slots) e n (inr h) = none_named slots e n h
-none_named (Name m ∷ slots) e n h = absurd (let g = some_stays m slots in cc)
-
-no_fetches : (byte : Bool) (last : Option ℕ) (slots : List Slot) → is_some (fold name_or None slots) ≡ false → flat_map (fetch_slot byte last) slots ≡ []
-no_fetches byte last [] e = refl
-no_fetches byte last (Fixed r ∷ slots) e = no_fetches byte last slots e
-no_fetches byte last (Name m ∷ slots) e = absurd (let g = some_stays m slots in cc)
-
-no_keeps : (byte : Bool) (last : Option ℕ) (slots : List Slot) → is_some (fold name_or None slots) ≡ false → flat_map (keep_slot byte last) slots ≡ []
-no_keeps byte last [] e = refl
-no_keeps byte last (Fixed r ∷ slots) e = no_keeps byte last slots e
-no_keeps byte last (Name m ∷ slots) e = absurd (let g = some_stays m slots in cc)
-
-and_false : (a b : Bool) → b ≡ false → (a && b) ≡ false
-and_false true b e = e
-and_false false b e = refl
-
-alone : (b : Bool) (count : ℕ) (fs : List PInstr) (o : PInstr) (ks : List PInstr) → b ≡ false → fs ≡ [] → ks ≡ [] → lend b count ++ (fs ++ o ∷ (ks ++ give_back b count)) ≡ o ∷ []
-alone b count fs o ks e f g = rw (e, f, g) refl
-
-module _ (runs : RunLaws CodePosition) (memories : MemoryLaws) (areas : PrivateAccessLaws) (fields : FieldPlaceLaws) (looks : AccessLaws) (steps : StepLaws) (marks : Marks) (code : List CodeBlock) (count : ℕ) (small : count ≤ 1540095) (x : VInstr) (placeable : IsInstrPlaceable x) (have : HaveCells count x.slots) (rest rest' : List Item) where
+module _ (runs : RunLaws CodePosition) (memories : MemoryLaws) (areas : PrivateAccessLaws) (fields : FieldPlaceLaws) (looks : AccessLaws) (steps : StepLaws) (tested : TestedRunLaws) (marks : Marks) (code : List CodeBlock) (count : ℕ) (small : count ≤ 1540095) (x : VInstr) (placeable : IsInstrPlaceable x) (have : HaveCells count x.slots) (rest rest' : List Item) where
   abbrev byte : Bool
   byte = has_byte_field x.instr
 
@@ -90,7 +58,7 @@ module _ (runs : RunLaws CodePosition) (memories : MemoryLaws) (areas : PrivateA
   placed xs = map (placed_item (homes_of (count + 1))) xs
 
   abbrev Steps : CodePosition → ℕ → CodePosition → Type 0
-  Steps p n q = Reaches (code_next marks code) p n [] q
+  Steps p n q = Reaches (clear_next marks code) p n [] q
 
   have_more : HaveCells (count + 1) x.slots
   have_more n h = let l = have n h in omega (arith, l)
@@ -101,12 +69,12 @@ module _ (runs : RunLaws CodePosition) (memories : MemoryLaws) (areas : PrivateA
   -- ---- EBX
   lend_runs : (b : Bool) (more : List Item) (t : CodeState) → HasPrivateArea t.memory → Steps (before_items (placed (lend b count) ++ more) t) (length (lend b count)) (before_items more (lent b count t))
   unfolding lent
-  lend_runs true more t h = goes _ [] _ _ [] _ (keep_step memories areas marks code (count + 1) (omega (arith, small)) count Ebx more t (omega arith) h) (rests _)
+  lend_runs true more t h = goes _ [] _ _ [] _ (keep_step memories areas tested marks code (count + 1) (omega (arith, small)) count Ebx more t (omega arith) h) (rests _)
   lend_runs false more t h = rests _
 
   give_runs : (b : Bool) (more : List Item) (t : CodeState) → HasPrivateArea t.memory → Steps (before_items (placed (give_back b count) ++ more) t) (length (give_back b count)) (before_items more (given b count t))
   unfolding given
-  give_runs true more t h = goes _ [] _ _ [] _ (fetch_step memories areas marks code (count + 1) (omega (arith, small)) count Ebx more t (omega arith) h) (rests _)
+  give_runs true more t h = goes _ [] _ _ [] _ (fetch_step memories areas tested marks code (count + 1) (omega (arith, small)) count Ebx more t (omega arith) h) (rests _)
   give_runs false more t h = rests _
 
   record Lent (b : Bool) (s t u : CodeState) : Type 0 where
@@ -133,12 +101,12 @@ module _ (runs : RunLaws CodePosition) (memories : MemoryLaws) (areas : PrivateA
   name_stays : (s t u : CodeState) (d e : Effect) → EffectsAlike (pairs_of x) s.cpu.regs u.cpu.regs d e → (n : ℕ) → ((m : ℕ) → HasName m x.slots → m ≢ n) → d.cpu.regs (name_place n) ≡ s.cpu.regs (name_place n)
   name_stays s t u d e a n o = a.others_left (name_place n) (name_left x n o)
 
-  module _ (s t : CodeState) (living : LiveInCells count s t) (miss : MissCells (accesses (naming_of x.slots) x.instr s.cpu.regs) s.memory) where
+  module _ (s t : CodeState) (living : LiveInCells count s t) (apart : All (IsApartAccess s.memory) (item_accesses (named_item x) s)) where
+    miss : MissCells (accesses (naming_of x.slots) x.instr s.cpu.regs) s.memory
+    miss = item_misses x s apart
+
     -- ---- without names: the own item alone
     module _ (none : is_some (last_name x.slots) ≡ false) where
-      alone_is : place_instr count x ≡ own x ∷ []
-      alone_is = alone borrows count (fetches byte last x.slots) (own x) (keeps byte last x.slots) (and_false byte (is_some (last_name x.slots)) none) (no_fetches byte last x.slots none) (no_keeps byte last x.slots none)
-
       beside : StandsBeside x s t
       beside = record {
         registers = record { registers = λ k low below. living.registers k (omega (arith, low)); names = λ n h. absurd (none_named x.slots none n h) };
@@ -147,15 +115,16 @@ module _ (runs : RunLaws CodePosition) (memories : MemoryLaws) (areas : PrivateA
         area = living.area;
       }
 
-      start_is : code_next marks code (placed_start marks code count x rest rest' s t) ≡ act (placed_own x) rest' t
-      unfolding code_next
-      start_is = ap (λ (is : List PInstr). code_next marks code (before_items (placed is ++ rest') t)) alone_is
+      start_is : clear_next marks code (placed_start marks code count x rest rest' s t) ≡ act (placed_own x) rest' t
+      start_is = ap (λ (is : List PInstr). clear_next marks code (before_items (placed is ++ rest') t)) (alone_is count x none) ∙ clear_step memories areas tested marks code (placed_own x) rest' t (own_clear memories areas fields x placeable s t beside apart)
 
       single : RunAlike x rest rest' s t → ItemsRun marks code count x rest rest' s t
       single (inl e) = inl (record { end = e.end; named = e.named; steps = 0; position = placed_start marks code count x rest rest' s t; reaches = rests _; placed = start_is ∙ e.placed })
       single (inr g) = inr (inr (record {
+        alone = alone_is count x none;
         left = g.left;
         right = g.right;
+        is_left = g.is_left;
         same = g.effects.way;
         named = g.named;
         placed = start_is ∙ g.placed;
@@ -203,11 +172,10 @@ module _ (runs : RunLaws CodePosition) (memories : MemoryLaws) (areas : PrivateA
       start =
           subst (λ (is : List Item). Steps (before_items is t) (length (lend borrows count) + length (fetches byte last x.slots)) (before_items (placed_own x ∷ rest2) t2))
           (sym (layout (placed_item (homes_of (count + 1))) (lend borrows count) (fetches byte last x.slots) (own x) (keeps byte last x.slots) (give_back borrows count) rest'))
-          (runs.reaches_then (code_next marks code) _ _ [] _ _ [] _ (lend_runs borrows _ t living.area) (fetches_run memories areas marks code (count + 1) (omega (arith, small)) byte last (placed_own x ∷ rest2) x.slots t1 have_more l1.area))
+          (runs.reaches_then (clear_next marks code) _ _ [] _ _ [] _ (lend_runs borrows _ t living.area) (fetches_run memories areas tested marks code (count + 1) (omega (arith, small)) byte last (placed_own x ∷ rest2) x.slots t1 have_more l1.area))
 
-      own_is : code_next marks code (before_items (placed_own x ∷ rest2) t2) ≡ act (placed_own x) rest2 t2
-      unfolding code_next
-      own_is = refl
+      own_is : clear_next marks code (before_items (placed_own x ∷ rest2) t2) ≡ act (placed_own x) rest2 t2
+      own_is = clear_step memories areas tested marks code (placed_own x) rest2 t2 (own_clear memories areas fields x placeable s t2 beside2 apart)
 
       esp_same : s.cpu.regs 4 ≡ t2.cpu.regs 4
       esp_same = living.registers 4 (omega arith) ∙ sym (regs1 4) ∙ sym (others byte last x.slots t1 4 (λ n h e. not_four (is_last last n) byte (sym e)))
@@ -228,7 +196,7 @@ module _ (runs : RunLaws CodePosition) (memories : MemoryLaws) (areas : PrivateA
         named_falls : act (named_item x) rest s ≡ Go [] (before_items rest (performed g.left s))
         named_falls = g.named ∙ ap (λ (w : Way). onward w (named_item x) rest (performed g.left s)) falls
 
-        own_falls : code_next marks code (before_items (placed_own x ∷ rest2) t2) ≡ Go [] (before_items rest2 t3)
+        own_falls : clear_next marks code (before_items (placed_own x ∷ rest2) t2) ≡ Go [] (before_items rest2 t3)
         own_falls = own_is ∙ g.placed ∙ ap (λ (w : Way). onward w (placed_own x) rest2 t3) (sym g.effects.way ∙ falls)
 
         area4 : HasPrivateArea t4.memory
@@ -236,7 +204,7 @@ module _ (runs : RunLaws CodePosition) (memories : MemoryLaws) (areas : PrivateA
 
         steps_back : Steps (before_items rest2 t3) (length (keeps byte last x.slots) + length (give_back borrows count)) (before_items rest' t5)
         steps_back =
-            runs.reaches_then (code_next marks code) _ _ [] _ _ [] _ (keeps_run memories areas marks code (count + 1) (omega (arith, small)) byte last (placed (give_back borrows count) ++ rest') x.slots t3 have_more g.area)
+            runs.reaches_then (clear_next marks code) _ _ [] _ _ [] _ (keeps_run memories areas tested marks code (count + 1) (omega (arith, small)) byte last (placed (give_back borrows count) ++ rest') x.slots t3 have_more g.area)
             (give_runs borrows rest' t4 area4)
 
         spare4 : borrows ≡ true → StandsIn t4.memory count (t.cpu.regs 3)
@@ -288,7 +256,7 @@ module _ (runs : RunLaws CodePosition) (memories : MemoryLaws) (areas : PrivateA
           steps = (length (lend borrows count) + length (fetches byte last x.slots)) + suc (length (keeps byte last x.slots) + length (give_back borrows count));
           some = omega arith;
           state' = t5;
-          reaches = runs.reaches_then (code_next marks code) _ _ [] _ _ [] _ start (goes _ [] _ _ [] _ own_falls steps_back);
+          reaches = runs.reaches_then (clear_next marks code) _ _ [] _ _ [] _ start (goes _ [] _ _ [] _ own_falls steps_back);
           living = living5;
         }
 

@@ -7,6 +7,7 @@ pub mod Pairs
 pub mod MovedNames
 pub mod OwnSteps
 pub mod Living
+pub mod CellPairs
 pub mod CellLaws
 pub mod PlacesCode
 pub mod SmallCode

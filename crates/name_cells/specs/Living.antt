@@ -1,16 +1,21 @@
 -- Named code beside placed code whose names live in cells, before an instruction and after it. All of this is own.
-use Rattle.std.specs.Prelude.{◌≡◌, ◌⊎◌, ℕ, ◌+◌, ◌<◌, ◌≤◌, List, [], ◌++◌, map}
-use Rattle.traces.specs.Trace.{End, Go, Halt}
+use Rattle.std.specs.Prelude.{◌≡◌, ◌⊎◌, ℕ, ◌+◌, ◌<◌, ◌≤◌, List, [], ◌∷◌, ◌++◌, map, Ok}
+use Rattle.traces.specs.Trace.{End, Move, Go, Halt}
 use Rattle.traces.specs.Steps.{Reaches}
-use Rattle.x86_meaning.specs.Effect.{Effect}
-use Rattle.private_memory.specs.PrivateArea.{HasPrivateArea}
+use Rattle.x86_meaning.specs.Effect.{Effect, effect}
+use Rattle.private_memory.specs.PrivateArea.{is_clear_access, HasPrivateArea}
 use Rattle.named_code.specs.declared.named.VInstr.{VInstr}
-use Rattle.named_code.specs.Items.{Item, CodeBlock, name_place, named_item, placed_item}
-use Rattle.named_code.specs.Running.{CodeState, CodePosition, Inside, Marks, standing_at, act, onward, performed, code_next}
+use Rattle.named_code.specs.Items.{Item, CodeBlock, name_place, naming_of, named_item, placed_item}
+use Rattle.named_code.specs.Running.{CodeState, CodePosition, Inside, Marks, standing_at, act, onward, performed}
+use Rattle.named_code.specs.TestedRun.{tested_next}
 use Rattle.name_cells.specs.Cells.{homes_of}
-use Rattle.name_cells.specs.Placing.{place_instr}
+use Rattle.name_cells.specs.Placing.{own, place_instr}
 use Rattle.name_cells.specs.MovedNames.{StandsIn}
 use Rattle.name_cells.specs.OwnSteps.{SameButCells, placed_own}
+
+-- the machine of placed code, which ends at an access that isn't clear
+abbrev pub clear_next : Marks → List CodeBlock → CodePosition → Move CodePosition
+clear_next marks code = tested_next is_clear_access marks code
 
 -- before these items, in a state
 abbrev pub before_items : List Item → CodeState → CodePosition
@@ -36,8 +41,8 @@ module _ (marks : Marks) (code : List CodeBlock) (count : ℕ) (x : VInstr) (res
     pub named : act (named_item x) rest s ≡ Halt [] end
     pub steps : ℕ
     pub position : CodePosition
-    pub reaches : Reaches (code_next marks code) placed_start steps [] position
-    pub placed : code_next marks code position ≡ Halt [] end
+    pub reaches : Reaches (clear_next marks code) placed_start steps [] position
+    pub placed : clear_next marks code position ≡ Halt [] end
 
   -- the next instruction follows, and its items follow those of this one
   pub record ItemsFall : Type 0 where
@@ -46,16 +51,18 @@ module _ (marks : Marks) (code : List CodeBlock) (count : ℕ) (x : VInstr) (res
     pub steps : ℕ
     pub some : 1 ≤ steps
     pub state' : CodeState
-    pub reaches : Reaches (code_next marks code) placed_start steps [] (before_items rest' state')
+    pub reaches : Reaches (clear_next marks code) placed_start steps [] (before_items rest' state')
     pub living : LiveInCells count state state'
 
   -- an instruction without names: it has one item, and both go on the same way
   pub record ItemGoes : Type 0 where
+    pub alone : place_instr count x ≡ own x ∷ []
     pub left : Effect
     pub right : Effect
+    pub is_left : effect (naming_of x.slots) x.instr 0 s.cpu s.memory ≡ Ok left
     pub same : left.way ≡ right.way
     pub named : act (named_item x) rest s ≡ onward left.way (named_item x) rest (performed left s)
-    pub placed : code_next marks code placed_start ≡ onward right.way (placed_own x) rest' (performed right t)
+    pub placed : clear_next marks code placed_start ≡ onward right.way (placed_own x) rest' (performed right t)
     pub living : LiveInCells count (performed left s) (performed right t)
 
   abbrev pub ItemsRun : Type 0

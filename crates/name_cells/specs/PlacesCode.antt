@@ -24,11 +24,15 @@ use Rattle.name_cells.specs.CanBePlaced.{IsInstrPlaceable, CanBePlaced}
 abbrev pub HasBlocksOf : List VBlock → Placed → Type 0
 HasBlocksOf code p = map {B = ℕ × ℕ} (λ (b : PBlock). (b.number, b.at)) p.blocks ≡ map {B = ℕ × ℕ} (λ (b : VBlock). (b.number, b.at)) code
 
--- ---- over every usual memory, from every start, the placed code does by turns what the code does, where the code's accesses are apart;
--- and then its own are clear
+-- ---- each turn of the code has so many steps at most
+abbrev pub HasShortTurns : Marks → List VBlock → Type 0
+HasShortTurns marks code = (rest : ℕ → ℕ) × (w : ℕ) × BoundsCode marks (λ x. 1) rest w (named_blocks code)
+
+-- ---- over every usual memory, from every start, the placed code does by turns what the code does, where the code's turns are short and
+-- its accesses are apart; and then its own are clear
 abbrev pub KeepsCode : List VBlock → Placed → Type 0
 KeepsCode code p =
-    (marks : Marks) (m : Memory) (entry esp0 : ℕ) (stack : List ℕ) (left : Environment) → HasBytes m → IsUsual esp0 m → IsStart esp0 stack → IsEnvironment left →
+    (marks : Marks) (m : Memory) (entry esp0 : ℕ) (stack : List ℕ) (left : Environment) → HasShortTurns marks code → HasBytes m → IsUsual esp0 m → IsStart esp0 stack → IsEnvironment left →
     RefinesByTurns (apart_run marks code m entry esp0 stack left) (clear_run marks p m entry esp0 stack left)
 
 -- ---- a turn costs what its instructions become

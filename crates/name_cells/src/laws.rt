@@ -3,7 +3,7 @@ ghost use Rattle.name_cells.specs.CellLaws.{CellLaws};
 
 use field_places::field_place_laws;
 use memory::memory_laws;
-use named_code::CodeMeaning;
+use named_code::{CodeMeaning, tested_laws};
 use private_memory::private_access_laws;
 use traces::run_laws;
 use x86_meaning::{access_laws, step_laws};
@@ -19,4 +19,5 @@ pub fn cell_laws()
     access_laws();
     step_laws();
     run_laws::<CodeMeaning>();
+    tested_laws();
 }
