@@ -1,3 +1,4 @@
+pub mod Numbering
 pub mod Addresses
 pub mod Sides
 pub mod Buffers
