@@ -1,4 +1,5 @@
 pub mod Numbering
+pub mod RenumberedOps
 pub mod Addresses
 pub mod Sides
 pub mod Buffers

@@ -1,5 +1,5 @@
 -- The new numbers of temporaries: those that are written are told apart from all others.
-use Rattle.std.proofs.Common.{◌≡◌, ℕ, suc, ◌+◌, ◌<◌, ◌≤◌, ◌==◌, ◌||◌, Bool, true, false, not, cond, if◌then◌else◌, List, [], ◌∷◌, ◌++◌, length, take, get_or, filter, fold, refl, sym, ap, ◌∙◌, subst, arith}
+use Rattle.std.proofs.Common.{◌≡◌, ℕ, suc, ◌+◌, ◌<◌, ◌≤◌, ◌==◌, ◌||◌, Bool, true, false, not, cond, if◌then◌else◌, List, [], ◌∷◌, ◌++◌, ltb, length, take, get_or, filter, fold, position, Option, Some, None, refl, sym, ap, ◌∙◌, subst, arith}
 use Rattle.std.specs.Bool.{nat_eq}
 use Rattle.std.specs.List.{list_any, flat_map}
 use Rattle.std.proofs.lemmas.Bool.Decides.{nat_tests}
@@ -14,19 +14,19 @@ use Rattle.guards.specs.Renumbering.{temps_written, without_repeats, written_tem
 -- ---- lists without repeats
 in_filter : (n m : ℕ) → (n == m) ≡ false → (ns : List ℕ) → list_any (nat_eq n) (filter (λ k. not (k == m)) ns) ≡ list_any (nat_eq n) ns
 in_filter n m other [] = refl
-in_filter n m other (x ∷ xs) = by (x == m) refl
+in_filter n m other (x ∷ xs) = by (x == m) refl (in_filter n m other xs)
   where
-    by : (z : Bool) → (x == m) ≡ z → list_any (nat_eq n) (cond (not z) (x ∷ filter (λ k. not (k == m)) xs) (filter (λ k. not (k == m)) xs)) ≡ ((n == x) || list_any (nat_eq n) xs)
-    by true e = let apart : (n == x) ≡ false = grind (arith, nat_tests, other, e) in in_filter n m other xs ∙ sym (ap (λ b. b || list_any (nat_eq n) xs) apart)
-    by false e = ap (λ b. (n == x) || b) (in_filter n m other xs)
+    by : (z : Bool) → (x == m) ≡ z → list_any (nat_eq n) (filter (λ k. not (k == m)) xs) ≡ list_any (nat_eq n) xs → list_any (nat_eq n) (cond (not z) (x ∷ filter (λ k. not (k == m)) xs) (filter (λ k. not (k == m)) xs)) ≡ ((n == x) || list_any (nat_eq n) xs)
+    by true e h = let apart : (n == x) ≡ false = grind (arith, nat_tests, other, e) in h ∙ sym (ap (λ b. b || list_any (nat_eq n) xs) apart)
+    by false e h = ap (λ b. (n == x) || b) h
 
 pub in_once : (n : ℕ) (ns : List ℕ) → list_any (nat_eq n) (without_repeats ns) ≡ list_any (nat_eq n) ns
 in_once n [] = refl
-in_once n (m ∷ ms) = by (n == m) refl
+in_once n (m ∷ ms) = by (n == m) refl (in_once n ms)
   where
-    by : (z : Bool) → (n == m) ≡ z → (z || list_any (nat_eq n) (filter (λ k. not (k == m)) (without_repeats ms))) ≡ (z || list_any (nat_eq n) ms)
-    by true e = refl
-    by false e = in_filter n m e (without_repeats ms) ∙ in_once n ms
+    by : (z : Bool) → (n == m) ≡ z → list_any (nat_eq n) (without_repeats ms) ≡ list_any (nat_eq n) ms → (z || list_any (nat_eq n) (filter (λ k. not (k == m)) (without_repeats ms))) ≡ (z || list_any (nat_eq n) ms)
+    by true e h = refl
+    by false e h = in_filter n m e (without_repeats ms) ∙ h
 
 -- one number more
 once_more : (ns : List ℕ) (n : ℕ) → without_repeats (ns ++ n ∷ []) ≡ insert_key nat_eq (without_repeats ns) n
@@ -66,16 +66,16 @@ AreTold f ns = (n : ℕ) → list_any (nat_eq n) ns ≡ true → IsTold f n
 
 pub new_told : (ws : List ℕ) → AreTold (new_number ws) ws
 new_told [] n h k = absurd cc
-new_told (w ∷ ws) n h k = by (n == w) refl (k == w) refl h
+new_told (w ∷ ws) n h k = by (n == w) refl (k == w) refl h (λ g. new_told ws n g k)
   where
-    by : (a : Bool) → (n == w) ≡ a → (b : Bool) → (k == w) ≡ b → (a || list_any (nat_eq n) ws) ≡ true → (k == n) ≡ (cond (not b) (1 + new_number ws k) 0 == cond (not a) (1 + new_number ws n) 0)
-    by true e true f h = grind (arith, nat_tests, e, f)
-    by true e false f h = grind (arith, nat_tests, e, f)
-    by false e true f h = grind (arith, nat_tests, e, f)
-    by false e false f h = new_told ws n h k ∙ one_more (new_number ws k) (new_number ws n)
-
     one_more : (a b : ℕ) → (a == b) ≡ (1 + a == 1 + b)
     one_more a b = grind (arith, nat_tests)
+
+    by : (a : Bool) → (n == w) ≡ a → (b : Bool) → (k == w) ≡ b → (a || list_any (nat_eq n) ws) ≡ true → (list_any (nat_eq n) ws ≡ true → (k == n) ≡ (new_number ws k == new_number ws n)) → (k == n) ≡ (cond (not b) (1 + new_number ws k) 0 == cond (not a) (1 + new_number ws n) 0)
+    by true e true f h rest = grind (arith, nat_tests, e, f)
+    by true e false f h rest = grind (arith, nat_tests, e, f)
+    by false e true f h rest = grind (arith, nat_tests, e, f)
+    by false e false f h rest = rest h ∙ one_more (new_number ws k) (new_number ws n)
 
 pub block_told : (ops : List Op) → AreTold (new_number (written_temps ops)) (flat_map temps_written ops)
 block_told ops n h = new_told (written_temps ops) n (in_once n (flat_map temps_written ops) ∙ h)
@@ -107,3 +107,14 @@ written_more ops i d old new few e f =
     flat_more : (os : List Op) (o : Op) → flat_map temps_written os ++ temps_written o ≡ flat_map temps_written (os ++ o ∷ [])
     flat_more [] o = sym (append-nil (temps_written o))
     flat_more (p ∷ ps) o = append_assoc (temps_written p) (flat_map temps_written ps) (temps_written o) ∙ ap (λ l. temps_written p ++ l) (flat_more ps o)
+
+-- a temporary that isn't written has the number behind the last
+pub unwritten : (ws : List ℕ) (n : ℕ) → position (nat_eq n) ws ≡ None → length ws ≡ new_number ws n
+unwritten ws n none = behind (new_number ws n) (length ws) (new_small ws n) none
+  where
+    behind : (a l : ℕ) → a ≤ l → cond (ltb a l) (Some a) None ≡ (let o : Option ℕ = None in o) → l ≡ a
+    behind a l few e = by (ltb a l) refl e
+      where
+        by : (b : Bool) → ltb a l ≡ b → cond b (Some a) None ≡ (let o : Option ℕ = None in o) → l ≡ a
+        by true f g = absurd cc
+        by false f g = grind (arith, nat_tests, few, f)

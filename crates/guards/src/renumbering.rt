@@ -56,6 +56,7 @@ fn written_temps(alloc: Global, ops: &[Op]) -> Result<IndexSet<u32>, AllocError>
     Ok(written)
 }
 
+#[tactic(auto, using(crate::proofs::Numbering::unwritten))]
 fn new_number(written: &IndexSet<u32>, number: u32) -> u32
     requires few { length written.now.keys ≤ 524288 }
     ensures { result ≡ new_number written.now.keys number }
