@@ -1,5 +1,5 @@
 -- An operation with other numbers of temporaries does the same, where those that it writes are told apart from all others.
-use Rattle.std.proofs.Common.{◌≡◌, ℕ, ◌+◌, ◌==◌, ℤ, ◌||◌, Bool, true, false, cond, List, [], ◌∷◌, ◌++◌, map, Option, Some, None, Result, Ok, Err, refl, sym, ap, ◌∙◌}
+use Rattle.std.proofs.Common.{◌≡◌, ℕ, ◌+◌, ◌==◌, ℤ, ◌||◌, Bool, true, false, cond, List, [], ◌∷◌, ◌++◌, take, Option, Some, None, Result, Ok, Err, refl, sym, ap, ◌∙◌}
 use Rattle.std.specs.Bool.{nat_eq}
 use Rattle.std.specs.List.{list_any}
 use Rattle.std.proofs.lemmas.Bool.{eq-eqb}
@@ -7,7 +7,7 @@ use Rattle.x86_values.specs.declared.word.Word.{Word}
 use Rattle.x86_values.specs.declared.divided.Divided.{Divided}
 use Rattle.x86_values.specs.declared.divided.Divided.TheVariants as divided
 use Rattle.x86_values.specs.Divisions.{divide}
-use Rattle.x86_values.specs.Words.{known}
+use Rattle.x86_values.specs.Words.{known, word_list}
 use Rattle.x86_values.specs.Sizes.{no_word}
 use Rattle.traces.specs.Trace.{End, Stopped, Outside}
 use Rattle.memory.specs.SystemCall.{Called, Ends, Gives}
@@ -19,7 +19,8 @@ use Rattle.flag_ir.specs.declared.operation.Op.{Op}
 use Rattle.flag_ir.specs.declared.operation.Op.TheVariants as op
 use Rattle.flag_ir.specs.Calculations.{calculate}
 use Rattle.flag_ir.specs.Storage.{Frame, Storage, put_var, var_in, term_in}
-use Rattle.flag_ir.specs.Operations.{and_then, needed, load, store, with_memory, with_frame, near_load, near_store, get_of, put_of, called, called_near, call_in, near_call_in, near_system, buffer_in, picked, divided_into, perform, shown_by}
+use Rattle.flag_ir.specs.Frames.{reached_frames, all_covered, put_near_all, is_judged}
+use Rattle.flag_ir.specs.Operations.{and_then, needed, load, store, with_memory, with_frame, near_load, near_store, get_of, put_of, in_frames, judged_buffer, near_call_by, labels_of, called, called_near, call_in, near_call_in, near_system, buffer_in, picked, divided_into, perform, shown_by}
 use Rattle.guards.specs.Renumbering.{renumbered_var, renumbered_term, renumbered_op, temp_of, temps_written}
 use Rattle.guards.proofs.Numbering.{IsTold, AreTold, told_first, told_rest}
 
@@ -93,9 +94,33 @@ module _ (f : ℕ → ℕ) where
 
   near_stored : (turn size : ℕ) (w : Word) (v : Storage) (at : ℕ) → near_store turn size w (renamed f v) at ≡ mapped (renamed f) (near_store turn size w v at)
   near_stored turn size w v at =
-      frame_mapped (renamed f) v.frames _ _
-      (cond_mapped (renamed f) _ _ _ _ _ (cond_mapped (renamed f) _ _ _ _ _ refl refl)
+      frame_mapped (renamed f) v.frames (cond (is_judged at v) (near (renamed f v)) (plain (renamed f v))) (cond (is_judged at v) (near v) (plain v))
+      (cond_mapped (renamed f) (is_judged at v) (near (renamed f v)) (plain (renamed f v)) (near v) (plain v)
+      (cond_mapped (renamed f) (all_covered (reached_frames v.frames) at size) (Ok (put_near (renamed f v))) (Err (Stopped turn)) (Ok (put_near v)) (Err (Stopped turn)) refl refl)
       (then_mapped (renamed f) (store size w v.memory at) (λ m. Ok (with_memory (renamed f v) m)) (λ m. Ok (with_memory v m)) (λ m. refl)))
+    where
+      put_near : Storage → Storage
+      put_near u = record u { frames = put_near_all at (take size (word_list w)) u.frames }
+
+      near : Storage → Result Storage End
+      near u = in_frames turn u at size (Ok (put_near u))
+
+      plain : Storage → Result Storage End
+      plain u = and_then (store size w u.memory at) (λ m. Ok (with_memory u m))
+
+  judged_same : (v : Storage) (number fd at n : Option ℕ) → judged_buffer (renamed f v) number fd at n ≡ judged_buffer v number fd at n
+  judged_same v (Some number) (Some fd) (Some at) (Some n) = refl
+  judged_same v None fd at n = refl
+  judged_same v (Some number) None at n = refl
+  judged_same v (Some number) (Some fd) None n = refl
+  judged_same v (Some number) (Some fd) (Some at) None = refl
+
+  buffer_same : (v : Storage) → buffer_in (renamed f v) ≡ buffer_in v
+  buffer_same v = judged_same v (known (v.regs 0)) (known (v.regs 3)) (known (v.regs 1)) (known (v.regs 2))
+
+  near_call_same : (o : Option (ℕ × ℕ)) (v : Storage) → near_call_by o (renamed f v) ≡ near_call_by o v
+  near_call_same None v = refl
+  near_call_same (Some p) v = refl
 
   -- ---- operations
   pub op_renamed : (turn : ℕ) (o : Op) (v : Storage) → AreTold f (temps_written o) → perform turn o (renamed f v) ≡ mapped (renamed f) (perform turn (renumbered_op f o) v)
@@ -123,7 +148,7 @@ module _ (f : ℕ → ℕ) where
   op_renamed turn (op.Get to size offset) v told = then_mapped (renamed f) (get_of size offset v.memory v.frames) _ _ (λ w. ap Ok (put_renamed to w v told))
   op_renamed turn (op.Put size offset from) v told = ap (λ w. put_of size offset w (renamed f v) v.frames) (term_read from v) ∙ put_of_renamed size offset (term_in (renumbered_term f from) v) v v.frames
   op_renamed turn op.System v told = called_renamed (call_in v) v
-  op_renamed turn op.NearSystem v told = frame_mapped (renamed f) v.frames _ _ (system_renamed turn (buffer_in v) v)
+  op_renamed turn op.NearSystem v told = frame_mapped (renamed f) v.frames (near_system turn (buffer_in (renamed f v)) (renamed f v)) (near_system turn (buffer_in v) v) (ap (λ o. near_system turn o (renamed f v)) (buffer_same v) ∙ system_renamed turn (buffer_in v) v)
 
   -- and shows the same
   pub op_shown : (o : Op) (v : Storage) → shown_by o (renamed f v) ≡ shown_by (renumbered_op f o) v
@@ -140,4 +165,4 @@ module _ (f : ℕ → ℕ) where
   op_shown (op.Get to size offset) v = refl
   op_shown (op.Put size offset from) v = refl
   op_shown op.System v = refl
-  op_shown op.NearSystem v = refl
+  op_shown op.NearSystem v = ap labels_of (ap (λ o. near_call_by o (renamed f v)) (buffer_same v) ∙ near_call_same (buffer_in v) v)
