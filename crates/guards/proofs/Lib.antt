@@ -10,8 +10,11 @@ pub mod GuardedLists
 pub mod UnitSteps
 pub mod TurnStores
 pub mod GuardedBlocks
+pub mod RenumberedExits
+pub mod RenumberedRuns
 pub mod SideBySide
 pub mod Shaping
+pub mod RenumberedUnits
 pub mod Costing
 pub mod Starting
 pub mod Safety
