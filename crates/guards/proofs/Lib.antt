@@ -1,3 +1,5 @@
+pub mod Numbering
+pub mod RenumberedOps
 pub mod Addresses
 pub mod Sides
 pub mod Buffers
@@ -8,8 +10,11 @@ pub mod GuardedLists
 pub mod UnitSteps
 pub mod TurnStores
 pub mod GuardedBlocks
+pub mod RenumberedExits
+pub mod RenumberedRuns
 pub mod SideBySide
 pub mod Shaping
+pub mod RenumberedUnits
 pub mod Costing
 pub mod Starting
 pub mod Safety

@@ -4,6 +4,7 @@
 mod area;
 mod laws;
 mod operations;
+mod renumbering;
 #[cfg(test)]
 mod tests;
 mod units;
