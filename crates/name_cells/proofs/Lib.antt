@@ -24,3 +24,4 @@ pub mod Meets
 pub mod JumpsMeet
 pub mod ShortTurns
 pub mod Starting
+pub mod PlacedCode

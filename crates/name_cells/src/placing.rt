@@ -1,10 +1,12 @@
 // The blocks of placed code.
 ghost use Rattle.std.specs.Prelude.{◌≡◌, IfOk};
 ghost use Rattle.name_cells.specs.CanBePlaced.{CanBePlaced};
+ghost use Rattle.name_cells.specs.PlacesCode.{PlacesCode};
 ghost use Rattle.name_cells.specs.Placing.{cells_of, place_block, place_instrs};
 
 use crate::cells::{homes, name_count};
 use crate::items::push_instr;
+use crate::laws::placing_law;
 use named_code::{HomeList, PBlock, PBlockList, PInstr, PInstrList, Placed, VBlock, VCode, VInstr};
 use std::alloc::{AllocError, Global};
 
@@ -29,21 +31,32 @@ fn place_block(alloc: Global, spare: u32, block: &VBlock) -> Result<PBlock, Allo
     })
 }
 
-/// The code with each name in its cell: the blocks in order, with the same numbers and old addresses. Each instruction stands behind a
-/// MOV of each of its names from its cell to a register, and before a MOV of each back. Err where memory runs out.
 #[tactic(auto, using(std::proofs::lemmas::List::map_more))]
-pub fn in_cells(alloc: Global, code: &VCode) -> Result<Placed, AllocError>
+fn place(alloc: Global, code: &[VBlock]) -> Result<Placed, AllocError>
     requires { CanBePlaced code.now }
     ensures { IfOk result (λ placed. placed ≡ cells_of code.now) }
 {
-    let spare = name_count(code.as_slice());
+    let spare = name_count(code);
     let homes = homes(alloc, spare + 1)?;
     let mut blocks = Vec::new(alloc);
-    for block in code.as_slice() {
+    for block in code {
         blocks.push(place_block(alloc, spare, block)?)?;
     }
     Ok(Placed {
         homes: HomeList::new(homes),
         blocks: PBlockList::new(blocks),
     })
+}
+
+/// The code with each name in its cell: the blocks in order, with the same numbers and old addresses. Each instruction stands behind a
+/// MOV of each of its names from its cell to a register, and before a MOV of each back. So it does by turns what the code does, where
+/// the code's accesses are apart, and a turn costs what its instructions become. Err where memory runs out.
+#[tactic(auto, using(crate::proofs::PlacedCode::of_blocks))]
+pub fn in_cells(alloc: Global, code: &VCode) -> Result<Placed, AllocError>
+    requires { CanBePlaced code.now }
+    ensures placed { IfOk result (λ placed. placed ≡ cells_of code.now) }
+    ensures places { IfOk result (PlacesCode code.now) }
+{
+    placing_law();
+    place(alloc, code.as_slice())
 }
