@@ -1,0 +1,2 @@
+//! Laid code as bytes.
+#![tactic(auto)]
