@@ -1,6 +1,6 @@
 -- The first step of code from a position, and what is seen behind a jump.
-use Rattle.std.proofs.Common.{◌≡◌, ◌≢◌, ◌⊎◌, inl, inr, ℕ, suc, ◌==◌, Bool, true, false, cond, List, [], ◌∷◌, ◌++◌, Option, Some, None, Result, Ok, Err, refl, sym, ap, ◌∙◌, subst, subst₂}
-use Rattle.traces.specs.Trace.{Label, Turn, End, Unspecified, Seen, seen, before, Move, Stand, Go, Halt, run}
+use Rattle.std.proofs.Common.{◌≡◌, ◌≢◌, ◌⊎◌, inl, inr, ℕ, suc, ◌==◌, Bool, true, false, cond, List, [], ◌∷◌, None, Result, Ok, Err, refl, sym, ap, ◌∙◌, subst₂}
+use Rattle.traces.specs.Trace.{Label, Turn, Unspecified, Seen, seen, before, Move, Stand, Go, Halt, run}
 use Rattle.traces.specs.Machines.{marked}
 use Rattle.traces.specs.Meeting.{OnBoth, EndBoth, SeenRefines}
 use Rattle.traces.specs.MeetingLaws.{MeetingLaws}

@@ -1,5 +1,5 @@
 -- A system call is the one instruction that goes on through a call.
-use Rattle.std.proofs.Common.{◌≡◌, ℕ, ◌+◌, Bool, true, false, List, [], ◌∷◌, Option, Some, None, Ok, Err, refl, sym, ap, ◌∙◌, subst}
+use Rattle.std.proofs.Common.{◌≡◌, ℕ, ◌+◌, Bool, true, false, List, [], ◌∷◌, Option, Some, None, Ok, Err, refl, sym, ap, ◌∙◌}
 use Rattle.x86_values.specs.declared.word.Word.{Word}
 use Rattle.x86_values.specs.declared.word.Flags.{Flags}
 use Rattle.x86_values.specs.Words.{word_of, known}
@@ -12,7 +12,7 @@ use Rattle.x86_meaning.specs.Registers.{Registers, Processor, Naming}
 use Rattle.x86_meaning.specs.Operands.{SizedOperand, values_in}
 use Rattle.x86_meaning.specs.TransferShapes.{Transfer}
 use Rattle.x86_meaning.specs.Transfers.{transfer}
-use Rattle.x86_meaning.specs.Outcomes.{Way, Falls, JumpsBy, Repeats, Calls, Computed, Computation, on_one, on_two, goes_to, lowered_by, raised_by, movs_computed, stos_computed, jump_computed, jump_to_computed, call_computed, call_to_computed, ret_computed}
+use Rattle.x86_meaning.specs.Outcomes.{Falls, Calls, Computation, on_one, on_two, goes_to, lowered_by, raised_by, movs_computed, stos_computed, jump_computed, jump_to_computed, call_computed, call_to_computed, ret_computed}
 use Rattle.x86_meaning.specs.Computing.{compute}
 use Rattle.x86_meaning.specs.Effect.{Effect, all_written, effect_of, effect_by, effect}
 use Rattle.flag_ir.specs.Accesses.{buffer_accessed}

@@ -1,8 +1,8 @@
 -- What the turns of the placed code cost.
-use Rattle.std.proofs.Common.{◌≡◌, ◌≢◌, ℕ, ◌+◌, ◌≤◌, ◌==◌, max, Bool, true, false, cond, is_some, List, [], ◌∷◌, ◌++◌, map, get_or, All, Option, refl, sym, ap, ◌∙◌, subst, arith}
+use Rattle.std.proofs.Common.{◌≡◌, ℕ, ◌+◌, ◌≤◌, Bool, true, false, is_some, List, [], ◌∷◌, ◌++◌, map, All, Option, refl, sym, ap, ◌∙◌, subst, arith}
 use Rattle.std.specs.List.{AllByRecursion}
 use Rattle.std.proofs.lemmas.List.{append-nil, map-append}
-use Rattle.std.proofs.lemmas.List.Elements.{All-nil, All-cons, All-head, All-tail, All-append, All-map}
+use Rattle.std.proofs.lemmas.List.Elements.{All-nil, All-cons, All-head, All-tail, All-append}
 use Rattle.x86_types.specs.declared.instr.Instr.{Instr}
 use Rattle.x86_types.specs.declared.instr.Instr.TheVariants as instr
 use Rattle.named_code.specs.declared.slot.Slot.{Slot}
@@ -11,9 +11,9 @@ use Rattle.named_code.specs.declared.named.VInstr.{VInstr}
 use Rattle.named_code.specs.declared.named.VBlock.{VBlock}
 use Rattle.named_code.specs.declared.placed.Home.{Home}
 use Rattle.named_code.specs.declared.placed.PInstr.{PInstr}
-use Rattle.named_code.specs.Items.{Item, CodeBlock, named_item, named_block, named_blocks, placed_item, placed_block, placed_blocks}
+use Rattle.named_code.specs.Items.{Item, named_item, named_block, placed_item, placed_block}
 use Rattle.named_code.specs.Running.{Marks}
-use Rattle.named_code.specs.Weight.{Course, Next, ToBlock, Either, ToOld, Again, course_of, left_at, most_behind, most, items_cost, IsOnce, IsBounded, BoundsCode}
+use Rattle.named_code.specs.Weight.{Course, Next, ToBlock, Either, ToOld, Again, course_of, left_at, most_behind, most, items_cost, IsOnce, IsBounded}
 use Rattle.name_cells.specs.Cells.{homes_of, name_count}
 use Rattle.name_cells.specs.Holders.{has_byte_field, last_name, borrows_ebx}
 use Rattle.name_cells.specs.CanBePlaced.{IsFalling, IsInstrPlaceable, IsBlockPlaceable, CanBePlaced}
@@ -154,7 +154,7 @@ module _ (homes : List Home) where
           let is : placed (place_instr spare x) ≡ placed_own x ∷ [] = ap (map (placed_item homes)) (alone_is spare x none) in
           let cost : items_cost c (placed (place_instr spare x)) ≡ c (placed_own x) + 0 = ap (items_cost c) is in
           let whole : most c left (placed (place_instr spare x) ++ rest) ≡ c (placed_own x) + most_behind (course_of x.instr) left (most c left rest)
-              = ap (λ (xs : List Item). most c left (xs ++ rest)) is ∙ ap (λ k. c (placed_own x) + most_behind k left (most c left rest)) (own_course x) in
+          = ap (λ (xs : List Item). most c left (xs ++ rest)) is ∙ ap (λ k. c (placed_own x) + most_behind k left (most c left rest)) (own_course x) in
           let behind : most_behind (course_of x.instr) left (most c left rest) ≤ most_behind (course_of x.instr) left (most d left rest') = behind_more (course_of x.instr) (most c left rest) (most d left rest') less in
           omega (arith, whole, cost, behind, within)
 

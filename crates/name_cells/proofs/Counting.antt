@@ -1,5 +1,5 @@
 -- How many names there are: each name has a cell, and so has one more.
-use Rattle.std.proofs.Common.{◌≡◌, ◌⊎◌, inl, inr, ℕ, ◌+◌, ◌<◌, ◌≤◌, max, Bool, true, false, List, [], ◌∷◌, fold, All, ap, arith}
+use Rattle.std.proofs.Common.{◌≡◌, inl, inr, ℕ, ◌+◌, ◌<◌, ◌≤◌, max, Bool, true, false, List, [], ◌∷◌, fold, All, ap, arith}
 use Rattle.std.proofs.lemmas.List.Elements.{All-nil, All-cons, All-head, All-tail, All-weaker}
 use Rattle.named_code.specs.declared.slot.Slot.{Slot}
 use Rattle.named_code.specs.declared.slot.Slot.TheVariants.{Fixed, Name}

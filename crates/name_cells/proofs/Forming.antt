@@ -1,13 +1,11 @@
 -- The placed code is in form, with the blocks of the code.
-use Rattle.std.proofs.Common.{◌≡◌, ◌≢◌, inl, inr, ℕ, zero, suc, ◌+◌, ◌<◌, ◌≤◌, Bool, true, false, cond, List, [], ◌∷◌, ◌++◌, map, flat_map, length, get_or, All, Option, refl, sym, ap, ap₂, ◌∙◌, subst, arith}
+use Rattle.std.proofs.Common.{◌≡◌, ◌≢◌, inl, inr, ℕ, zero, suc, ◌+◌, ◌<◌, ◌≤◌, Bool, true, false, cond, List, [], ◌∷◌, ◌++◌, map, length, get_or, All, Option, refl, sym, ap, ◌∙◌, subst, arith}
 use Rattle.std.specs.List.{range_with_len}
 use Rattle.std.proofs.lemmas.List.FromFn.{length-map-range_with_len}
 use Rattle.std.proofs.lemmas.List.Elements.{All-nil, All-cons, All-head, All-tail, All-append, All-map}
 use Rattle.x86_types.specs.declared.operand.Reg.{Reg}
 use Rattle.x86_types.specs.declared.operand.Reg.TheVariants.{Eax, Ecx, Edx, Ebx, Esp, Ebp, Esi, Edi}
-use Rattle.x86_types.specs.declared.instr.Instr.{Instr}
 use Rattle.x86_types.specs.Numbers.{number_of_reg}
-use Rattle.x86_types.specs.Registers.{Index, renamed, MakesNoEspIndex}
 use Rattle.x86_grammar.specs.Renamings.{SpellingIsKept}
 use Rattle.named_code.specs.declared.slot.Slot.{Slot}
 use Rattle.named_code.specs.declared.slot.Slot.TheVariants.{Fixed, Name}
@@ -19,14 +17,14 @@ use Rattle.named_code.specs.declared.placed.PInstr.TheVariants as item
 use Rattle.named_code.specs.declared.placed.PBlock.{PBlock}
 use Rattle.named_code.specs.Items.{slot_at}
 use Rattle.named_code.specs.Form.{register_fields, NamesBlock, IsInstrInForm, IsBlockInForm, IsCodeInForm}
-use Rattle.named_code.specs.PlacedForm.{IsOwnInForm, IsMoveInForm, IsItemInForm, IsPBlockInForm, IsCell, IsPlacedInForm}
+use Rattle.named_code.specs.PlacedForm.{IsMoveInForm, IsItemInForm, IsPBlockInForm, IsCell, IsPlacedInForm}
 use Rattle.name_cells.specs.Cells.{home_at, homes_of, name_count}
 use Rattle.name_cells.specs.Renaming.{register_of}
 use Rattle.name_cells.specs.Holders.{has_byte_field, last_name, is_last, holder, slot_register, field_registers, borrows_ebx}
-use Rattle.name_cells.specs.CanBePlaced.{HasName, CanBePlaced}
+use Rattle.name_cells.specs.CanBePlaced.{CanBePlaced}
 use Rattle.name_cells.specs.Pairs.{own_renaming}
 use Rattle.name_cells.specs.MovedNames.{HaveCells}
-use Rattle.name_cells.specs.Placing.{fetch_slot, keep_slot, fetches, keeps, own, lend, give_back, place_instr, place_instrs, place_block, cells_of}
+use Rattle.name_cells.specs.Placing.{fetches, keeps, own, lend, give_back, place_instr, place_instrs, place_block, cells_of}
 use Rattle.name_cells.specs.PlacesCode.{HasBlocksOf}
 use Rattle.name_cells.proofs.OwnItems.{IsUsable, at_usable, register_is}
 use Rattle.name_cells.specs.CellPairs.{Fits}

@@ -1,24 +1,24 @@
 -- Named code and its placed code meet behind jumps, and so at each pair of positions.
-use Rattle.std.proofs.Common.{◌≡◌, ◌≢◌, ◌⊎◌, inl, inr, ℕ, ◌+◌, ◌≤◌, ◌==◌, Bool, true, false, cond, find, List, [], ◌∷◌, ◌++◌, map, All, Option, Some, None, refl, sym, ap, ◌∙◌, subst, subst₂}
+use Rattle.std.proofs.Common.{◌≡◌, ◌⊎◌, inl, inr, ℕ, ◌+◌, ◌==◌, Bool, true, false, cond, find, List, [], ◌∷◌, ◌++◌, map, All, Option, Some, None, refl, sym, ap, ◌∙◌, subst, subst₂}
 use Rattle.std.specs.List.{list_all}
 use Rattle.std.proofs.lemmas.List.{map-append}
 use Rattle.std.proofs.lemmas.List.Elements.{All-head, All-tail}
-use Rattle.traces.specs.Trace.{Turn, End, Outside, Unspecified, Seen, seen, Move, Stand, Go, Halt, run}
+use Rattle.traces.specs.Trace.{Turn, Outside, Unspecified, Seen, seen, Move, Stand, Halt}
 use Rattle.traces.specs.Machines.{marked}
-use Rattle.traces.specs.Meeting.{OnBoth, EndBoth, SeenRefines, Meets}
+use Rattle.traces.specs.Meeting.{OnBoth, SeenRefines, Meets}
 use Rattle.private_memory.specs.PrivateArea.{is_apart_access, is_clear_access}
 use Rattle.named_code.specs.declared.named.VInstr.{VInstr}
 use Rattle.named_code.specs.declared.named.VBlock.{VBlock}
 use Rattle.named_code.specs.declared.placed.Home.{Home}
 use Rattle.named_code.specs.declared.placed.PInstr.{PInstr}
 use Rattle.named_code.specs.Items.{Item, CodeBlock, named_item, named_block, named_blocks, placed_item, placed_block, placed_blocks}
-use Rattle.named_code.specs.Running.{CodeState, CodePoint, AtNumber, AtOld, Inside, CodePosition, Marks, standing_at, act, goes_on, block_of_number, block_at, marked_unless_zero, begun, code_next}
-use Rattle.named_code.specs.TestedRun.{AccessTest, first_accesses, items_found, turn_shown, turn_found, all_pass, tested_next}
+use Rattle.named_code.specs.Running.{CodeState, CodePoint, AtNumber, AtOld, CodePosition, Marks, standing_at, act, goes_on, block_of_number, block_at, marked_unless_zero, begun, code_next}
+use Rattle.named_code.specs.TestedRun.{AccessTest, first_accesses, items_found, turn_found, all_pass, tested_next}
 use Rattle.name_cells.specs.Cells.{homes_of, name_count}
 use Rattle.name_cells.specs.CanBePlaced.{CanBePlaced}
 use Rattle.name_cells.specs.Placing.{place_instr, place_instrs, place_block, cells_of}
 use Rattle.name_cells.specs.Living.{before_items, LiveInCells}
-use Rattle.name_cells.specs.CellPairs.{Fits, PairPoint, ToNumber, ToOld, Before, PointFits, named_point, placed_point, CellPair, named_position, placed_position}
+use Rattle.name_cells.specs.CellPairs.{Fits, PairPoint, ToNumber, ToOld, Before, PointFits, named_point, placed_point, named_position, placed_position}
 use Rattle.name_cells.proofs.WholeInstrs.{items_run}
 use Rattle.name_cells.proofs.SomeItems.{some_placed}
 use Rattle.name_cells.proofs.Counting.{BlockFits, code_fits, count_small}

@@ -1,55 +1,51 @@
 -- Named code and its placed code, side by side: they meet before each instruction.
-use Rattle.std.proofs.Common.{◌≡◌, ◌≢◌, ◌⊎◌, inl, inr, ℕ, zero, suc, ◌+◌, ◌<◌, ◌≤◌, ◌==◌, ◌&&◌, Bool, true, false, not, cond, ltb, find, get_or, length, List, [], ◌∷◌, ◌++◌, map, All, Option, Some, None, Ok, refl, sym, ap, ap₂, ◌∙◌, subst, subst₂, arith}
-use Rattle.std.proofs.lemmas.Bool.{ltb-false, le-ltb}
-use Rattle.std.proofs.lemmas.List.{map-append}
-use Rattle.std.proofs.lemmas.List.Elements.{All-nil, All-cons, All-head, All-tail}
+use Rattle.std.proofs.Common.{◌≡◌, ◌≢◌, ◌⊎◌, inl, inr, ℕ, zero, suc, ◌+◌, ◌≤◌, ◌==◌, ◌&&◌, Bool, not, cond, ltb, List, [], ◌∷◌, ◌++◌, map, All, Some, None, refl, sym, ap, ap₂, ◌∙◌, subst, subst₂, arith}
+use Rattle.std.proofs.lemmas.Bool.{le-ltb}
+use Rattle.std.proofs.lemmas.List.Elements.{All-tail}
 use Rattle.outside.specs.Environment.{Environment}
-use Rattle.traces.specs.Trace.{Label, End, Outside, Unspecified, Seen, seen, before, Move, Stand, Go, Halt, run}
+use Rattle.traces.specs.Trace.{Label, End, Unspecified, Seen, seen, before, Move, Go, Halt, run}
 use Rattle.traces.specs.Steps.{Goes, Reaches}
 use Rattle.traces.specs.Simulation.{Paired}
-use Rattle.traces.specs.Meeting.{OnBoth, EndBoth, SeenRefines}
+use Rattle.traces.specs.Meeting.{OnBoth, SeenRefines}
 use Rattle.traces.specs.MeetingLaws.{MeetingLaws}
 use Rattle.traces.specs.RunLaws.{RunLaws}
 use Rattle.x86_values.specs.declared.word.Word.{Word}
 use Rattle.x86_values.specs.Words.{word_of, known}
 use Rattle.x86_values.specs.Sizes.{no_word}
-use Rattle.memory.specs.Memory.{Memory, Stored, store_all}
+use Rattle.memory.specs.Memory.{Stored, store_all}
 use Rattle.memory.specs.MemoryLaws.{MemoryLaws}
 use Rattle.memory.specs.SystemCall.{Request, Called, Ends, Gives, system_call}
-use Rattle.x86_meaning.specs.Registers.{Registers, with_register}
+use Rattle.x86_meaning.specs.Registers.{with_register}
 use Rattle.x86_meaning.specs.Operands.{Access}
 use Rattle.x86_meaning.specs.Outcomes.{Way, Falls, JumpsBy, JumpsTo, Repeats, Calls}
-use Rattle.x86_meaning.specs.Effect.{Effect}
 use Rattle.x86_meaning.specs.Step.{request_of, with_result}
 use Rattle.x86_meaning.specs.StepLaws.{StepLaws, stored_range}
 use Rattle.x86_meaning.specs.AccessLaws.{AccessLaws}
 use Rattle.flag_ir.specs.Accesses.{buffer_accessed}
-use Rattle.private_memory.specs.PrivateArea.{IsApartAccess, is_apart_access, is_clear_access}
+use Rattle.private_memory.specs.PrivateArea.{IsApartAccess, is_apart_access}
 use Rattle.private_memory.specs.PrivateAreaLaws.{PrivateAccessLaws}
 use Rattle.field_places.specs.FieldPlaceLaws.{FieldPlaceLaws}
 use Rattle.named_code.specs.declared.named.VInstr.{VInstr}
 use Rattle.named_code.specs.declared.named.VBlock.{VBlock}
 use Rattle.named_code.specs.declared.placed.PInstr.{PInstr}
-use Rattle.named_code.specs.Items.{Item, CodeBlock, name_place, naming_of, named_item, named_blocks, placed_item, placed_blocks}
-use Rattle.named_code.specs.Running.{CodeState, CodePoint, AtNumber, AtOld, Inside, CodePosition, Marks, standing_at, names_alone, lost, after_call, onward, performed, act, code_next}
-use Rattle.named_code.specs.TestedRun.{call_buffer, item_accesses, all_pass, tested_next}
+use Rattle.named_code.specs.Items.{Item, naming_of, named_item, named_blocks, placed_item, placed_blocks}
+use Rattle.named_code.specs.Running.{CodeState, CodePosition, Marks, standing_at, names_alone, lost, after_call, onward, performed, act}
+use Rattle.named_code.specs.TestedRun.{item_accesses, tested_next}
 use Rattle.named_code.specs.TestedRunLaws.{TestedRunLaws}
 use Rattle.name_cells.specs.Cells.{homes_of, name_count}
-use Rattle.name_cells.specs.CanBePlaced.{IsInstrPlaceable, CanBePlaced}
+use Rattle.name_cells.specs.CanBePlaced.{CanBePlaced}
 use Rattle.name_cells.specs.MovedNames.{StandsIn}
 use Rattle.name_cells.specs.Placing.{own, place_instr, place_instrs, cells_of}
 use Rattle.name_cells.specs.OwnSteps.{MissCells, placed_own}
-use Rattle.name_cells.specs.Living.{clear_next, before_items, LiveInCells, ItemsEnd, ItemsFall, ItemGoes, ItemsRun}
+use Rattle.name_cells.specs.Living.{clear_next, before_items, LiveInCells, ItemsRun}
 use Rattle.name_cells.specs.CellPairs.{Fits, PairPoint, ToNumber, ToOld, Before, PointFits, named_point, placed_point, CellPair, named_position, placed_position}
 use Rattle.name_cells.proofs.MovedNames.{set_elsewhere}
 use Rattle.name_cells.proofs.OwnSteps.{RangesMiss, cells_stay, same_after, area_stays}
 use Rattle.name_cells.proofs.OwnAccesses.{buffer_misses}
 use Rattle.name_cells.proofs.Calls.{StoresMiss, call_same, call_stores}
 use Rattle.name_cells.proofs.CallWays.{call_stays, call_asks}
-use Rattle.name_cells.proofs.WholeInstrs.{items_run}
-use Rattle.name_cells.proofs.SomeItems.{some_placed}
 use Rattle.name_cells.proofs.Counting.{count_small}
-use Rattle.name_cells.proofs.Beginnings.{items_awake, EndLater, Onward}
+use Rattle.name_cells.proofs.Beginnings.{EndLater}
 
 pub record CellLawsBelow : Type 0 where
   pub runs : RunLaws CodePosition
@@ -197,7 +193,7 @@ module _ (laws : CellLawsBelow) (code : List VBlock) (can : CanBePlaced code) (m
     items_met g apart (inl i) =
         let after : i.steps + 1 ≡ suc i.steps = omega arith in
         let ends : run target q (suc i.steps) ≡ seen [] (Some i.end)
-            = ap (run target q) (sym after) ∙ (laws.runs.reaches_run target q i.steps [] i.position i.reaches 1 ∙ ap (before []) (laws.runs.run_halt target i.position [] i.end i.placed 0)) in
+        = ap (run target q) (sym after) ∙ (laws.runs.reaches_run target q i.steps [] i.position i.reaches 1 ∙ ap (before []) (laws.runs.run_halt target i.position [] i.end i.placed 0)) in
         inr (halt_both p q i.end i.steps (g ∙ i.named) ends)
     items_met g apart (inr (inl f)) = inl (go_both p q [] f.steps (Before xs) f.state f.state' (All-tail (Fits count) x xs fits) f.living (g ∙ f.named) (to_goes q _ f.steps f.some f.reaches))
     items_met g apart (inr (inr i)) =

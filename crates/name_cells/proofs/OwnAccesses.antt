@@ -1,14 +1,12 @@
 -- The accesses of an own item are those of its instruction: they miss the cells where these are apart, and are clear.
-use Rattle.std.proofs.Common.{◌≡◌, ℕ, ◌<◌, true, List, [], ◌∷◌, ◌++◌, All, refl, sym, ap, ap₂, ◌∙◌, subst, arith}
+use Rattle.std.proofs.Common.{◌≡◌, List, [], ◌∷◌, ◌++◌, All, refl, sym, ap₂, ◌∙◌, subst, arith}
 use Rattle.std.proofs.lemmas.List.Elements.{All-nil, All-cons, All-head, All-tail}
-use Rattle.x86_values.specs.Words.{known}
-use Rattle.memory.specs.Memory.{Memory, kind_of, AreApart}
+use Rattle.memory.specs.Memory.{Memory}
 use Rattle.memory.specs.MemoryLaws.{MemoryLaws}
 use Rattle.x86_types.specs.declared.instr.Instr.{Instr}
 use Rattle.x86_types.specs.declared.instr.Instr.TheVariants as instr
 use Rattle.x86_meaning.specs.Operands.{Access}
 use Rattle.x86_meaning.specs.Effect.{accesses}
-use Rattle.flag_ir.specs.Accesses.{buffer_accessed}
 use Rattle.private_memory.specs.PrivateArea.{IsApartAccess, IsClearAccess}
 use Rattle.private_memory.specs.PrivateAreaLaws.{PrivateAccessLaws}
 use Rattle.field_places.specs.Fields.{implicit_registers}
@@ -20,7 +18,7 @@ use Rattle.named_code.specs.Running.{CodeState}
 use Rattle.named_code.specs.TestedRun.{call_buffer, item_accesses}
 use Rattle.name_cells.specs.CanBePlaced.{IsInstrPlaceable}
 use Rattle.name_cells.specs.Pairs.{pairs_of, own_renaming}
-use Rattle.name_cells.specs.OwnSteps.{MissCells, SameButCells, StandsBeside, placed_own}
+use Rattle.name_cells.specs.OwnSteps.{MissCells, StandsBeside, placed_own}
 use Rattle.name_cells.proofs.OwnItems.{uses, own_accesses}
 use Rattle.name_cells.proofs.RenamedInstrs.{is_kept}
 

@@ -1,15 +1,14 @@
 -- Named code and its placed code start side by side, so that the placed code does by turns what the code does.
-use Rattle.std.proofs.Common.{◌≡◌, ◌⊎◌, inl, inr, ℕ, zero, suc, ◌+◌, ◌-◌, ◌*◌, ◌/◌, ◌<◌, ◌≤◌, ◌==◌, ◌&&◌, Bool, true, false, cond, leb, ltb, List, map, length, Option, Some, None, refl, sym, ap, ◌∙◌, subst, arith}
+use Rattle.std.proofs.Common.{◌≡◌, ◌⊎◌, inl, inr, ℕ, zero, suc, ◌+◌, ◌-◌, ◌*◌, ◌<◌, ◌≤◌, ◌==◌, ◌&&◌, Bool, true, false, cond, leb, ltb, List, map, length, Option, Some, refl, sym, ap, ◌∙◌, subst, arith}
 use Rattle.std.specs.List.{range_with_len}
 use Rattle.std.proofs.lemmas.Bool.{le-ltb, lt-leb}
 use Rattle.std.proofs.lemmas.Bool.Decides.{eqb_tells}
-use Rattle.outside.specs.Environment.{Environment, IsEnvironment}
+use Rattle.outside.specs.Environment.{Environment}
 use Rattle.x86_values.specs.declared.word.Word.{Word}
 use Rattle.traces.specs.Trace.{run}
-use Rattle.traces.specs.Turns.{RefinesByTurns}
 use Rattle.traces.specs.MoveLaws.{MoveLaws}
 use Rattle.traces.specs.SimulationLaws.{SimulationLaws}
-use Rattle.memory.specs.Memory.{Place, Memory, HasBytes, wrapped, put_all, kind_of, stack_start, stack_place, with_stack}
+use Rattle.memory.specs.Memory.{Place, Memory, wrapped, put_all, kind_of, stack_start, stack_place, with_stack}
 use Rattle.memory.specs.MemoryLaws.{MemoryLaws}
 use Rattle.x86_values.specs.Words.{word_list}
 use Rattle.x86_meaning.specs.Run.{IsStart, first_registers}
@@ -18,7 +17,7 @@ use Rattle.private_memory.specs.PrivateAreaLaws.{PrivateAccessLaws}
 use Rattle.named_code.specs.declared.named.VBlock.{VBlock}
 use Rattle.named_code.specs.declared.placed.Home.{Home}
 use Rattle.named_code.specs.Items.{placed_blocks}
-use Rattle.named_code.specs.Running.{CodeState, CodePosition, Marks}
+use Rattle.named_code.specs.Running.{CodePosition}
 use Rattle.named_code.specs.CodeRun.{first_register, first_places, with_cells_from, with_cells, first_state}
 use Rattle.named_code.specs.TestedRun.{tested_run}
 use Rattle.name_cells.specs.Cells.{cell_at, home_at, homes_of, name_count}

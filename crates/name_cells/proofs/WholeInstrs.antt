@@ -1,5 +1,5 @@
 -- An instruction's items run as the instruction does: with names, and without.
-use Rattle.std.proofs.Common.{◌≡◌, ◌≢◌, ◌⊎◌, inl, inr, ℕ, suc, ◌+◌, ◌<◌, ◌≤◌, ◌==◌, ◌&&◌, Bool, true, false, is_some, List, [], ◌∷◌, ◌++◌, map, flat_map, fold, length, All, Option, Some, None, refl, sym, ap, ◌∙◌, subst, arith}
+use Rattle.std.proofs.Common.{◌≡◌, ◌≢◌, ◌⊎◌, inl, inr, ℕ, suc, ◌+◌, ◌<◌, ◌≤◌, ◌==◌, Bool, true, false, is_some, List, [], ◌∷◌, ◌++◌, map, length, All, Option, refl, sym, ap, ◌∙◌, subst, arith}
 use Rattle.std.proofs.lemmas.Bool.Decides.{eqb_tells}
 use Rattle.traces.specs.Trace.{Go}
 use Rattle.traces.specs.Steps.{Reaches, rests, goes}
@@ -19,8 +19,6 @@ use Rattle.private_memory.specs.PrivateArea.{IsApartAccess, HasPrivateArea}
 use Rattle.private_memory.specs.PrivateAreaLaws.{PrivateAccessLaws}
 use Rattle.field_places.specs.Pairs.{EffectsAlike}
 use Rattle.field_places.specs.FieldPlaceLaws.{FieldPlaceLaws}
-use Rattle.named_code.specs.declared.slot.Slot.{Slot}
-use Rattle.named_code.specs.declared.slot.Slot.TheVariants.{Fixed, Name}
 use Rattle.named_code.specs.declared.named.VInstr.{VInstr}
 use Rattle.named_code.specs.declared.placed.PInstr.{PInstr}
 use Rattle.named_code.specs.Items.{Item, CodeBlock, name_place, named_item, placed_item, naming_of}
@@ -28,8 +26,8 @@ use Rattle.named_code.specs.Running.{CodeState, CodePosition, Marks, act, onward
 use Rattle.named_code.specs.TestedRun.{item_accesses}
 use Rattle.named_code.specs.TestedRunLaws.{TestedRunLaws}
 use Rattle.name_cells.specs.Cells.{cell_at, homes_of}
-use Rattle.name_cells.specs.Holders.{has_byte_field, name_or, last_name, is_last, holder, borrows_ebx}
-use Rattle.name_cells.specs.Placing.{fetch_slot, keep_slot, fetches, keeps, own, lend, give_back, place_instr}
+use Rattle.name_cells.specs.Holders.{has_byte_field, last_name, is_last, holder, borrows_ebx}
+use Rattle.name_cells.specs.Placing.{fetches, keeps, own, lend, give_back}
 use Rattle.name_cells.specs.CanBePlaced.{HasName, IsInstrPlaceable}
 use Rattle.name_cells.specs.Pairs.{pairs_of}
 use Rattle.name_cells.specs.MovedNames.{StandsIn, with_fetched, with_kept, HaveCells}
@@ -41,7 +39,7 @@ use Rattle.name_cells.proofs.MovedNames.{set_there, set_elsewhere, others, put_t
 use Rattle.name_cells.proofs.OwnSteps.{own_step}
 use Rattle.name_cells.proofs.Falling.{effect_falls}
 use Rattle.name_cells.proofs.OwnAccesses.{item_misses, own_clear}
-use Rattle.name_cells.proofs.NoNames.{NoNames, none_named, and_false, alone_is}
+use Rattle.name_cells.proofs.NoNames.{none_named, and_false, alone_is}
 use Rattle.name_cells.proofs.ItemsRun.{layout, fetched_memory, fetched_flags, fetched_left, kept_cpu, kept_left, lent, given, given_memory, given_flags, given_left, named_or_not, not_four, ebx_left, name_left, registers_after, cell_put, kept_memory, kept_area}
 
 module _ (runs : RunLaws CodePosition) (memories : MemoryLaws) (areas : PrivateAccessLaws) (fields : FieldPlaceLaws) (looks : AccessLaws) (steps : StepLaws) (tested : TestedRunLaws) (marks : Marks) (code : List CodeBlock) (count : ℕ) (small : count ≤ 1540095) (x : VInstr) (placeable : IsInstrPlaceable x) (have : HaveCells count x.slots) (rest rest' : List Item) where

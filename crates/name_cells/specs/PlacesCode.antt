@@ -7,7 +7,6 @@ use Rattle.x86_meaning.specs.Run.{IsStart}
 use Rattle.private_memory.specs.PrivateArea.{IsUsual}
 use Rattle.named_code.specs.declared.named.VInstr.{VInstr}
 use Rattle.named_code.specs.declared.named.VBlock.{VBlock}
-use Rattle.named_code.specs.declared.placed.PBlock.{PBlock}
 use Rattle.named_code.specs.declared.placed.Placed.{Placed}
 use Rattle.named_code.specs.Items.{Item, named_item, named_blocks, placed_item, placed_blocks}
 use Rattle.named_code.specs.Running.{Marks}
