@@ -1,17 +1,16 @@
 -- What an item does, beside the step of the processor over the registers alone, in a memory that is at reserved addresses as at first.
-use Rattle.std.proofs.Common.{◌≡◌, ◌≢◌, ◌⊎◌, inl, inr, ℕ, zero, suc, ◌+◌, ◌<◌, ◌==◌, Bool, true, false, List, [], ◌∷◌, All, map, length, Option, Some, None, Result, Ok, Err, refl, sym, ap, ◌∙◌, subst, arith}
+use Rattle.std.proofs.Common.{◌≡◌, ◌≢◌, ◌⊎◌, inl, inr, ℕ, ◌+◌, ◌<◌, ◌==◌, Bool, true, false, List, [], ◌∷◌, All, map, Result, Ok, Err, refl, sym, ap, ◌∙◌, subst, arith}
 use Rattle.std.proofs.lemmas.Bool.{and_parts, eqb-true, eqb-false}
 use Rattle.std.proofs.lemmas.List.Elements.{All-nil, All-cons, All-head, All-tail}
-use Rattle.traces.specs.Trace.{End, Move, Halt}
+use Rattle.traces.specs.Trace.{End, Halt}
 use Rattle.memory.specs.Memory.{Memory, Stored, AccessKind, Load, Store, wrapped, store_all}
 use Rattle.memory.specs.CallLaws.{is_own_end}
 use Rattle.x86_types.specs.declared.operand.Reg.TheVariants.{Esp}
 use Rattle.x86_types.specs.declared.instr.Instr.{Instr}
 use Rattle.x86_meaning.specs.declared.stop.Stop.{Stop}
 use Rattle.x86_meaning.specs.declared.stop.Stop.TheVariants.{MemoryFault, DivideFault, Unspecified}
-use Rattle.x86_meaning.specs.Registers.{Registers, machine_naming}
+use Rattle.x86_meaning.specs.Registers.{machine_naming}
 use Rattle.x86_meaning.specs.Operands.{Access}
-use Rattle.x86_meaning.specs.Outcomes.{Way}
 use Rattle.x86_meaning.specs.Effect.{Effect, accesses, effect}
 use Rattle.x86_meaning.specs.Step.{State, access_allowed, all_allowed, end_of, finish, step}
 use Rattle.x86_meaning.specs.Step as processor
@@ -21,7 +20,7 @@ use Rattle.private_memory.specs.PrivateArea.{is_unreserved, is_clear_access}
 use Rattle.field_places.specs.Fields.{fields}
 use Rattle.field_places.specs.Pairs.{ResultsAlike, EffectsAlike}
 use Rattle.named_code.specs.Items.{Item, own_item}
-use Rattle.named_code.specs.Running.{CodeState, CodePosition, onward, performed, by_stores, by_effect, by_loads, act}
+use Rattle.named_code.specs.Running.{CodeState, onward, performed, by_loads, act}
 use Rattle.named_code.specs.Form.{IsStackless}
 use Rattle.laid_code.specs.LaidRun.{with_reserved}
 use Rattle.laid_code.proofs.Given.{Given}

@@ -1,13 +1,12 @@
 -- The beginning of laid code comes to a state beside the first position of the code.
-use Rattle.std.proofs.Common.{◌≡◌, ◌≢◌, ◌⊎◌, inl, inr, ℕ, ◌+◌, ◌-◌, ◌*◌, ◌%◌, ◌<◌, ◌≤◌, ◌==◌, ◌&&◌, ◌||◌, Bool, true, false, cond, leb, ltb, List, [], ◌∷◌, length, Option, Some, None, refl, sym, ap, ap₂, ◌∙◌, subst, arith}
-use Rattle.std.proofs.lemmas.Bool.{eqb-true, lt-ltb, le-ltb, le-leb}
+use Rattle.std.proofs.Common.{◌≡◌, ◌≢◌, ℕ, ◌+◌, ◌-◌, ◌*◌, ◌%◌, ◌<◌, ◌≤◌, ◌==◌, ◌&&◌, ◌||◌, Bool, true, false, cond, leb, ltb, List, [], ◌∷◌, Some, refl, sym, ap, ap₂, ◌∙◌, subst, arith}
+use Rattle.std.proofs.lemmas.Bool.{eqb-true, lt-ltb, le-leb}
 use Rattle.outside.specs.Environment.{Environment, IsEnvironment}
 use Rattle.x86_values.specs.declared.byte.Byte.{Byte}
-use Rattle.x86_values.specs.declared.word.Word.{Word}
 use Rattle.x86_values.specs.Sizes.{no_word}
 use Rattle.x86_values.specs.Words.{word_of, word_list, known}
 use Rattle.x86_values.specs.LessSpecified.{WordLessSpecified}
-use Rattle.traces.specs.Trace.{Move, Go}
+use Rattle.traces.specs.Trace.{Go}
 use Rattle.traces.specs.Steps.{Goes}
 use Rattle.memory.specs.Memory.{Memory, Store, wrapped, allows_all, kind_of, put_all, forget_below, with_stack}
 use Rattle.memory.specs.LessSpecified.{PlaceLessSpecified}
@@ -26,16 +25,16 @@ use Rattle.x86_meaning.specs.Effect.{accesses, effect}
 use Rattle.x86_meaning.specs.Step.{State, settled_by, settled, at_address, finish, step, next}
 use Rattle.x86_meaning.specs.StepLaws.{with_moved}
 use Rattle.x86_meaning.specs.Run.{first_registers, first_processor, start_over, IsStart}
-use Rattle.private_memory.specs.PrivateArea.{is_unreserved, lies_beside}
+use Rattle.private_memory.specs.PrivateArea.{is_unreserved}
 use Rattle.named_code.specs.declared.placed.Home.{Home}
 use Rattle.named_code.specs.Items.{CodeBlock}
-use Rattle.named_code.specs.CodeRun.{first_places, with_cells_from, with_cells, first_position}
-use Rattle.laid_code.specs.Laid.{Places, Stands, Leads, place_of_old}
-use Rattle.laid_code.specs.LaidRun.{with_reserved, AreMemoriesBeside}
+use Rattle.named_code.specs.CodeRun.{first_places, with_cells_from, with_cells}
+use Rattle.laid_code.specs.Laid.{Places, Stands, place_of_old}
+use Rattle.laid_code.specs.LaidRun.{with_reserved}
 use Rattle.laid_code.specs.Beginning.{esp_to, Begins, with_esp, CanBegin, HasBegun, BeginningLaws}
 use Rattle.laid_code.proofs.Given.{Given}
 use Rattle.laid_code.proofs.Memories.{shown, reserved, nothing_forgotten}
-use Rattle.laid_code.proofs.FirstMemories.{is_in_stack, in_stack, off_stack, stack_high, put_beside, forgets_nothing, put_off_stack, allows_by_kinds, IsOffStack}
+use Rattle.laid_code.proofs.FirstMemories.{is_in_stack, in_stack, off_stack, stack_high, put_beside, forgets_nothing, put_off_stack, allows_by_kinds}
 
 -- ---- the cells of names keep what is mapped
 module _ (laws : MemoryLaws) (esp0 : ℕ) where
@@ -222,7 +221,6 @@ module _ (given : Given) (code : Code) where
       n2_reserved a h =
           given.memory.put_all_elsewhere cell word n1 a (elsewhere cell (let f = can.from in omega (arith, f)) can.to a h)
           ∙ given.memory.put_all_elsewhere 0x75000000 word n a (elsewhere 0x75000000 (omega arith) (omega arith) a h)
-
 
       place_less : (a : ℕ) (b c : Bool) → is_in_stack esp0 stack a ≡ b → is_unreserved a ≡ c → PlaceLessSpecified (with_reserved n (with_stack esp0 stack coded) a) (with_stack esp0 stack n2 a)
       place_less a true c e f =

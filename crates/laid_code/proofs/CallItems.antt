@@ -1,16 +1,15 @@
 -- INT 80h is met by one step of the processor, where the buffer of its call is clear.
-use Rattle.std.proofs.Common.{◌≡◌, ◌≢◌, ◌⊎◌, inl, inr, ℕ, ◌+◌, ◌<◌, ◌==◌, Bool, true, false, cond, List, [], ◌∷◌, All, map, Option, Some, None, refl, sym, ap, ◌∙◌, subst, arith}
+use Rattle.std.proofs.Common.{◌≡◌, ℕ, ◌+◌, ◌<◌, ◌==◌, Bool, true, false, List, [], ◌∷◌, All, map, Some, refl, sym, ap, ◌∙◌, subst, arith}
 use Rattle.std.proofs.lemmas.Bool.{eqb-true, eqb-false}
 use Rattle.std.proofs.lemmas.List.Elements.{All-head}
 use Rattle.outside.specs.Environment.{Environment}
 use Rattle.x86_values.specs.Words.{word_of, known}
-use Rattle.traces.specs.Trace.{Label, End, Move, Go, Halt}
-use Rattle.memory.specs.Memory.{Memory, Stored, AccessKind, Load, Store, wrapped, allows_all, store_all}
-use Rattle.memory.specs.CallLaws.{is_own_end, IsPlainCall}
+use Rattle.traces.specs.Trace.{Label, Move}
+use Rattle.memory.specs.Memory.{Memory, Stored, wrapped, store_all}
+use Rattle.memory.specs.CallLaws.{IsPlainCall}
 use Rattle.memory.specs.SystemCall.{Request, Called, Ends, Gives, system_call}
 use Rattle.x86_types.specs.declared.instr.Instr.TheVariants as instr
 use Rattle.x86_code.specs.Code.{Code}
-use Rattle.x86_meaning.specs.Registers.{with_register}
 use Rattle.x86_meaning.specs.Operands.{Access}
 use Rattle.x86_meaning.specs.Transfers.{transfer}
 use Rattle.x86_meaning.specs.Computing.{compute}
@@ -19,15 +18,15 @@ use Rattle.x86_meaning.specs.Step.{State, settled, at_address, request_of, with_
 use Rattle.x86_meaning.specs.Step as processor
 use Rattle.flag_ir.specs.Operations.{has_buffer}
 use Rattle.flag_ir.specs.Accesses.{buffer_accessed}
-use Rattle.private_memory.specs.PrivateArea.{is_unreserved, is_clear_access}
+use Rattle.private_memory.specs.PrivateArea.{is_clear_access}
 use Rattle.named_code.specs.Items.{Item, CodeBlock, own_item}
-use Rattle.named_code.specs.Running.{CodeState, CodePoint, Inside, CodePosition, standing_at, after_call, act}
+use Rattle.named_code.specs.Running.{CodeState, Inside, CodePosition, after_call, act}
 use Rattle.named_code.specs.TestedRun.{call_buffer}
 use Rattle.laid_code.specs.Laid.{Places, Stands, Lies, IsLayable}
-use Rattle.laid_code.specs.LaidRun.{with_reserved, AreStatesBeside}
+use Rattle.laid_code.specs.LaidRun.{AreStatesBeside}
 use Rattle.laid_code.proofs.Given.{Given}
-use Rattle.laid_code.proofs.Memories.{clear_addresses, same_in, judged, IsUnreservedStore, stores_same, stores_keep_kinds}
-use Rattle.laid_code.proofs.OwnPairs.{registers_alone, alone_below}
+use Rattle.laid_code.proofs.Memories.{clear_addresses, same_in, judged, stores_same, stores_keep_kinds}
+use Rattle.laid_code.proofs.OwnPairs.{alone_below}
 use Rattle.laid_code.proofs.Acting.{alone}
 use Rattle.laid_code.proofs.Calling.{buffer_kind, SameWhereAsked, UnreservedWhereAsked, call_same, stores_unreserved}
 use Rattle.laid_code.proofs.Stepping.{IsAlone}

@@ -1,15 +1,15 @@
 -- A system call over two memories that are the same in its buffer, where it has one that is allowed.
-use Rattle.std.proofs.Common.{◌≡◌, ◌⊎◌, inl, inr, ℕ, zero, suc, ◌+◌, ◌<◌, ◌≤◌, ◌==◌, ◌&&◌, ◌||◌, Bool, true, false, not, cond, leb, min, List, [], ◌∷◌, All, length, Option, Some, None, refl, sym, ap, ◌∙◌, subst, arith}
+use Rattle.std.proofs.Common.{◌≡◌, ◌⊎◌, inl, inr, ℕ, ◌+◌, ◌<◌, ◌==◌, ◌&&◌, ◌||◌, Bool, true, false, not, cond, leb, min, List, [], All, Option, Some, None, refl, sym, ap, ◌∙◌, subst, arith}
 use Rattle.std.proofs.lemmas.Bool.{and_parts, eqb-true}
-use Rattle.std.proofs.lemmas.List.Elements.{All-nil, All-cons, All-head, All-tail}
+use Rattle.std.proofs.lemmas.List.Elements.{All-nil}
 use Rattle.outside.specs.declared.answer.Answer.{Answer}
 use Rattle.outside.specs.declared.answer.Answer.TheVariants.{Take, Fail}
 use Rattle.outside.specs.Environment.{Environment, cap, next_answer}
 use Rattle.traces.specs.Trace.{Label}
 use Rattle.x86_values.specs.Words.{known, known_byte, all_known}
-use Rattle.memory.specs.Memory.{Place, Memory, Stored, AccessKind, Load, Store, wrapped, allows, allows_all, bytes_at, SameIn}
-use Rattle.memory.specs.SystemCall.{Request, Called, Ends, Gives, EBADF, EFAULT, error, passes, Plan, Refused, Stops, Asks, read_plan, write_plan, asks_known, reads, writes, read_by, write_by, exit_call, read_call, write_call, transfer_call, call_by, system_call}
-use Rattle.memory.specs.CallLaws.{CallLaws, SameBuffer, IsInBuffer, StoresInBuffer}
+use Rattle.memory.specs.Memory.{Memory, Stored, AccessKind, Load, Store, wrapped, allows_all, bytes_at, SameIn}
+use Rattle.memory.specs.SystemCall.{Request, Called, Ends, Gives, EBADF, EFAULT, error, passes, Plan, Refused, Stops, Asks, write_plan, asks_known, reads, writes, read_by, write_by, exit_call, read_call, write_call, transfer_call, call_by, system_call}
+use Rattle.memory.specs.CallLaws.{CallLaws, IsInBuffer, StoresInBuffer}
 use Rattle.flag_ir.specs.Operations.{has_buffer}
 use Rattle.private_memory.specs.PrivateArea.{is_unreserved}
 use Rattle.laid_code.proofs.Memories.{IsUnreservedStore}
@@ -158,8 +158,8 @@ call_stores q m left = go (known q.number) refl
         chooses (ReadsToBuffer q) (number == 1) (number == 3) (number == 4) _ _ _ _
         (exits (ReadsToBuffer q) (known_byte q.fd.b0))
         (λ three. transfers (ReadsToBuffer q) read_call (known q.fd) (known q.at) (known q.count) m left
-          (λ fd at count f g h. reads_by (ReadsToBuffer q) (fd == 0) (count == 0) (passes Store m at count) fd at (min count cap) left
-            (λ zero_fd some. record { fd = fd; at = at; count = count; number = e ∙ ap (λ n. Some n) (eqb-true number 3 three); is_fd = f; is_at = g; is_count = h; has = asks_buffer (fd == 0) (count == 0) zero_fd some })))
+        (λ fd at count f g h. reads_by (ReadsToBuffer q) (fd == 0) (count == 0) (passes Store m at count) fd at (min count cap) left
+        (λ zero_fd some. record { fd = fd; at = at; count = count; number = e ∙ ap (λ n. Some n) (eqb-true number 3 three); is_fd = f; is_at = g; is_count = h; has = asks_buffer (fd == 0) (count == 0) zero_fd some })))
         (λ four. transfers (ReadsToBuffer q) write_call (known q.fd) (known q.at) (known q.count) m left (λ fd at count f g h. writes_none (ReadsToBuffer q) (write_plan m fd at count) fd left))
         tt
 

@@ -1,13 +1,11 @@
 -- The memory of the processor at the beginning, while esp is stored.
-use Rattle.std.proofs.Common.{◌≡◌, ◌≢◌, ◌⊎◌, inl, inr, ℕ, zero, suc, ◌+◌, ◌-◌, ◌*◌, ◌/◌, ◌%◌, ◌<◌, ◌≤◌, ◌&&◌, Bool, true, false, not, cond, leb, ltb, List, [], ◌∷◌, length, Option, Some, None, refl, sym, ap, ap₂, ◌∙◌, subst, arith}
+use Rattle.std.proofs.Common.{◌≡◌, ◌≢◌, ℕ, zero, suc, ◌+◌, ◌*◌, ◌/◌, ◌%◌, ◌<◌, ◌≤◌, ◌&&◌, Bool, true, false, not, cond, leb, ltb, List, length, Option, Some, None, refl, sym, ap, ap₂, ◌∙◌, subst, arith}
 use Rattle.std.proofs.lemmas.Bool.{and_parts, leb-true, ltb-true, ltb-false, lt-ltb}
 use Rattle.x86_values.specs.declared.byte.Byte.{Byte}
 use Rattle.x86_values.specs.declared.byte.Byte.TheVariants.{Unspecified}
-use Rattle.x86_values.specs.Words.{word_of, word_list}
-use Rattle.memory.specs.Memory.{Place, Memory, AccessKind, Load, Store, wrapped, allows, allows_all, kind_of, put_all, forgotten, forget_below, stack_start, stack_place, with_stack}
+use Rattle.memory.specs.Memory.{Place, Memory, AccessKind, wrapped, allows_all, kind_of, put_all, forgotten, forget_below, stack_start, stack_place, with_stack}
 use Rattle.memory.specs.MemoryLaws.{MemoryLaws}
 use Rattle.x86_meaning.specs.Run.{IsStart}
-use Rattle.private_memory.specs.PrivateArea.{is_unreserved, lies_beside}
 use Rattle.laid_code.specs.Beginning.{is_off_stack}
 use Rattle.laid_code.proofs.Memories.{free_allows}
 

@@ -1,6 +1,5 @@
 -- Memories beside each other: what is judged, loaded and stored by accesses that are clear.
 use Rattle.std.proofs.Common.{◌≡◌, ℕ, zero, suc, ◌+◌, ◌<◌, ◌&&◌, ◌||◌, Bool, true, false, not, cond, List, [], ◌∷◌, All, length, Option, Some, None, refl, sym, ap, ap₂, ◌∙◌, subst, arith}
-use Rattle.std.specs.List.{list_all}
 use Rattle.std.proofs.lemmas.Bool.{and_parts}
 use Rattle.std.proofs.lemmas.List.Elements.{All-head, All-tail}
 use Rattle.memory.specs.Memory.{Place, Memory, Stored, AccessKind, Load, Store, wrapped, allows, allows_all, kind_of, put_all, store_all, forget_below, SameIn}
@@ -8,7 +7,6 @@ use Rattle.memory.specs.LessSpecified.{PlaceLessSpecified, MemoryLessSpecified}
 use Rattle.memory.specs.MemoryLaws.{MemoryLaws}
 use Rattle.x86_meaning.specs.Operands.{Access}
 use Rattle.x86_meaning.specs.Step.{access_allowed, all_allowed}
-use Rattle.x86_meaning.specs.StepLaws.{stored_range, if_store, store_ranges}
 use Rattle.x86_meaning.specs.AccessLaws.{SameLoad, SameLoads}
 use Rattle.private_memory.specs.PrivateArea.{is_unreserved, each_address, is_clear_access}
 use Rattle.laid_code.specs.LaidRun.{with_reserved, AreMemoriesBeside}

@@ -1,45 +1,26 @@
 -- The moves of the code by one item, simulated by one step of the processor.
-use Rattle.std.proofs.Common.{◌≡◌, ◌≢◌, ◌⊎◌, inl, inr, ℕ, ◌+◌, ◌%◌, ◌<◌, ◌≤◌, ◌==◌, ◌&&◌, Bool, true, false, cond, List, [], ◌∷◌, All, Contains, map, Option, Some, None, Result, Ok, Err, refl, sym, ap, ◌∙◌, subst, arith}
-use Rattle.std.proofs.lemmas.Bool.{eqb-true, eqb-false}
-use Rattle.outside.specs.Environment.{Environment}
-use Rattle.x86_values.specs.declared.word.Word.{Word}
-use Rattle.x86_values.specs.Words.{word_of, known}
-use Rattle.x86_values.specs.Conditions.{condition}
+use Rattle.std.proofs.Common.{◌≡◌, ◌≢◌, ℕ, Bool, true, false, List, [], Option, Some, None, Result, Ok, Err, refl, sym, ap, ◌∙◌, subst, arith}
+use Rattle.x86_values.specs.Words.{known}
 use Rattle.traces.specs.Trace.{Label, End, Exited, OtherCall, Outside, MemoryFault, DivideFault, Guard, Stopped, Move, Stand, Go, Halt, Seen, seen, events, run}
 use Rattle.traces.specs.Trace as trace
 use Rattle.traces.specs.Agree.{outside}
-use Rattle.traces.specs.Simulation.{Ends, Matched, Simulates, Fits, SameEvents, Paired}
-use Rattle.memory.specs.Memory.{Memory, Stored, AccessKind, Load, Store, wrapped, allows_all, store_all}
-use Rattle.memory.specs.CallLaws.{is_own_end, IsPlainCall}
-use Rattle.memory.specs.SystemCall.{Request, Called, Ends as CallEnds, Gives, system_call}
-use Rattle.x86_types.specs.declared.operand.Reg.TheVariants.{Esp}
-use Rattle.x86_types.specs.declared.operation.Cond.{Cond}
+use Rattle.traces.specs.Simulation.{Ends, Simulates, Fits, SameEvents, Paired}
+use Rattle.memory.specs.Memory.{Memory}
+use Rattle.memory.specs.CallLaws.{is_own_end}
+use Rattle.memory.specs.SystemCall.{Called, Ends as CallEnds, Gives}
 use Rattle.x86_types.specs.declared.instr.Instr.{Instr}
-use Rattle.x86_types.specs.declared.instr.Instr.TheVariants as instr
 use Rattle.x86_code.specs.Code.{Code}
 use Rattle.x86_meaning.specs.declared.stop.Stop.{Stop}
-use Rattle.x86_meaning.specs.Registers.{Registers, Processor, with_register, machine_naming}
-use Rattle.x86_meaning.specs.Operands.{Access}
-use Rattle.x86_meaning.specs.Outcomes.{Way, Falls, JumpsBy, JumpsTo, Repeats, Calls, jump_computed}
-use Rattle.x86_meaning.specs.Transfers.{transfer}
-use Rattle.x86_meaning.specs.Computing.{compute}
-use Rattle.x86_meaning.specs.Effect.{Effect, accesses, effect}
+use Rattle.x86_meaning.specs.Outcomes.{Way, Falls, JumpsBy, JumpsTo, Repeats, Calls}
+use Rattle.x86_meaning.specs.Effect.{Effect}
 use Rattle.x86_meaning.specs.Step.{State, settled_by, settled, at_address, request_of, with_result, finish, step, step_at, next}
 use Rattle.x86_meaning.specs.Step as processor
-use Rattle.x86_meaning.specs.LessSpecified.{MoveLessSpecified}
-use Rattle.private_memory.specs.PrivateArea.{is_unreserved, is_clear_access}
-use Rattle.field_places.specs.Fields.{fields}
-use Rattle.named_code.specs.Items.{Item, CodeBlock, own_item}
-use Rattle.named_code.specs.Running.{CodeState, CodePoint, AtNumber, AtOld, Inside, CodePosition, standing_at, after_call, onward, performed, act}
-use Rattle.named_code.specs.Form.{IsStackless}
-use Rattle.named_code.specs.TestedRun.{call_buffer, item_accesses}
-use Rattle.named_code.specs.Weight.{Course, Next, course_of, IsWayOf}
-use Rattle.laid_code.specs.Laid.{Places, Stands, Leads, Lies, IsLayable}
-use Rattle.laid_code.specs.LaidRun.{AreStatesBeside, StandsAt, IsBeside, BesidePair}
+use Rattle.named_code.specs.Items.{CodeBlock}
+use Rattle.named_code.specs.Running.{CodeState, CodePoint, CodePosition, standing_at}
+use Rattle.laid_code.specs.Laid.{Places}
+use Rattle.laid_code.specs.LaidRun.{StandsAt, BesidePair}
 use Rattle.laid_code.proofs.Given.{Given}
-use Rattle.laid_code.proofs.Memories.{IsFree}
-use Rattle.laid_code.proofs.Acting.{alone, EndAlike, GoAlike, both_moves}
-use Rattle.laid_code.proofs.Stepping.{IsAlone, GoesBeside, EndsAs, is_alone, less_move, goes_beside, ends_as}
+use Rattle.laid_code.proofs.Stepping.{GoesBeside, EndsAs}
 
 -- ---- a step of an instruction doesn't stand
 abbrev pub IsStep : Move State → Type 0

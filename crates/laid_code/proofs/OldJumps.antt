@@ -1,22 +1,19 @@
 -- A jump to an old address is met by the six instructions of a jump by the table, or by four where the address lies outside the span.
-use Rattle.std.proofs.Common.{◌≡◌, ◌≢◌, ◌⊎◌, inl, inr, ℕ, ◌+◌, ◌-◌, ◌*◌, ◌%◌, ◌<◌, ◌≤◌, ◌&&◌, ◌||◌, Bool, true, false, cond, leb, ltb, List, [], ◌∷◌, ◌++◌, All, map, Option, Some, None, refl, sym, ap, ap₂, ◌∙◌, subst, arith}
+use Rattle.std.proofs.Common.{◌≡◌, ◌≢◌, ◌⊎◌, inl, inr, ℕ, ◌+◌, ◌-◌, ◌%◌, ◌<◌, ◌≤◌, ◌||◌, Bool, true, false, cond, leb, ltb, List, [], All, Option, Some, None, refl, sym, ap, ap₂, ◌∙◌, subst, arith}
 use Rattle.std.proofs.lemmas.Bool.{ltb-true, ltb-false, leb-true, leb-false, lt-ltb, le-ltb}
 use Rattle.x86_values.specs.declared.word.Word.{Word}
 use Rattle.x86_values.specs.Sizes.{cut, number}
-use Rattle.x86_values.specs.Words.{word_of, known}
+use Rattle.x86_values.specs.Words.{known}
 use Rattle.x86_values.specs.LessSpecified.{WordLessSpecified}
 use Rattle.traces.specs.Trace.{End, Move, Stand, Go, Halt, run, seen}
 use Rattle.traces.specs.Trace as trace
 use Rattle.traces.specs.Steps.{Goes}
-use Rattle.traces.specs.Simulation.{Ends, Matched}
 use Rattle.memory.specs.Memory.{Memory, wrapped}
-use Rattle.memory.specs.CallLaws.{is_own_end}
 use Rattle.x86_types.specs.declared.operand.Reg.TheVariants.{Esp}
 use Rattle.x86_types.specs.declared.operand.Rm.{Rm}
-use Rattle.x86_types.specs.declared.instr.Instr.{Instr}
 use Rattle.x86_types.specs.declared.instr.Instr.TheVariants as instr
 use Rattle.x86_code.specs.Code.{Code}
-use Rattle.x86_meaning.specs.Registers.{Registers, with_register, machine_naming}
+use Rattle.x86_meaning.specs.Registers.{machine_naming}
 use Rattle.x86_meaning.specs.Outcomes.{Way, Falls, JumpsBy, JumpsTo, Repeats, Calls}
 use Rattle.x86_meaning.specs.Effect.{accesses}
 use Rattle.x86_meaning.specs.Step.{State, at_address, finish, step, next}
@@ -25,15 +22,15 @@ use Rattle.x86_meaning.specs.LessSpecified.{MoveLessSpecified}
 use Rattle.private_memory.specs.PrivateArea.{is_clear_access}
 use Rattle.field_places.specs.Fields.{fields}
 use Rattle.named_code.specs.Items.{Item, CodeBlock, own_item}
-use Rattle.named_code.specs.Running.{CodeState, AtNumber, AtOld, Inside, CodePosition, standing_at, after_call, onward, performed, lost, act}
+use Rattle.named_code.specs.Running.{CodeState, AtOld, Inside, CodePosition, standing_at, onward, performed, lost, act}
 use Rattle.named_code.specs.Weight.{Next, IsWayOf}
-use Rattle.laid_code.specs.Laid.{Places, Stands, Leads, JumpsByTable, is_outside, place_of_old, IsLaid}
+use Rattle.laid_code.specs.Laid.{Places, JumpsByTable, place_of_old, IsLaid}
 use Rattle.laid_code.specs.LaidRun.{AreStatesBeside, HasTable}
 use Rattle.laid_code.proofs.Given.{Given}
 use Rattle.laid_code.proofs.Acting.{alone, EndAlike, GoAlike, both_moves}
-use Rattle.laid_code.proofs.Stepping.{GoesBeside, less_move, goes_beside, ends_as}
+use Rattle.laid_code.proofs.Stepping.{less_move, goes_beside, ends_as}
 use Rattle.laid_code.proofs.Moving.{Simulated, awake, ends_met}
-use Rattle.laid_code.proofs.TableSteps.{Holds, HoldsOn, Compared, less_in_span, lost_registers, sub_holds, cmp_holds, passes_holds, stops_holds, look_holds, jump_holds}
+use Rattle.laid_code.proofs.TableSteps.{Holds, HoldsOn, less_in_span, lost_registers, sub_holds, cmp_holds, passes_holds, stops_holds, look_holds, jump_holds}
 use Rattle.laid_code.proofs.TableJumps.{takes, taken, jumped, moved, TakesWord, both_take, same_reads, fields_of_move}
 
 module _ (given : Given) (l : Places) (code : Code) (blocks : List CodeBlock) (first : Memory) where
@@ -144,12 +141,14 @@ module _ (given : Given) (l : Places) (code : Code) (blocks : List CodeBlock) (f
             let after = stands.takes.after in
             let within = stands.takes.within in
             let there : wrapped (t.eip + len) ≡ stands.q1 = omega (arith, after, within) in
-            let beside = subst (λ x. AreStatesBeside first x h.state) same h.beside in
-            (record {
-              state = h.state;
-              goes = given.runs.goes_step (next code) t [] h.state h.goes;
-              holds = holds_beside w a h.state is (h.eip ∙ there) beside;
-            }, known_fits ((taken s w).cpu.regs 0) (h.state.cpu.regs 0) a (beside.registers 0 (omega arith)) (ap known (given.steps.set_there 0 w s.cpu.regs) ∙ is))
+            let beside = subst (λ x. AreStatesBeside first x h.state) same h.beside in (
+              record {
+                state = h.state;
+                goes = given.runs.goes_step (next code) t [] h.state h.goes;
+                holds = holds_beside w a h.state is (h.eip ∙ there) beside;
+              },
+              known_fits ((taken s w).cpu.regs 0) (h.state.cpu.regs 0) a (beside.registers 0 (omega arith)) (ap known (given.steps.set_there 0 w s.cpu.regs) ∙ is),
+            )
 
     -- ---- and the others lead to the place of the address, or to the stop
     pub record ArrivesAt (place : ℕ) : Type 0 where

@@ -1,8 +1,7 @@
 -- An instruction that doesn't use esp uses the other registers, each with itself.
-use Rattle.std.proofs.Common.{◌≡◌, ◌≢◌, ◌⊎◌, inl, inr, ℕ, zero, suc, ◌<◌, Bool, true, false, cond, ltb, List, [], ◌∷◌, All, Option, Some, None, refl, sym, ap, ◌∙◌, subst, arith}
-use Rattle.std.proofs.lemmas.Bool.{lt-ltb, ltb-true}
+use Rattle.std.proofs.Common.{◌≡◌, ◌≢◌, inl, inr, ℕ, zero, suc, ◌<◌, Bool, true, false, cond, ltb, List, [], ◌∷◌, All, refl, sym, ap, ◌∙◌, arith}
+use Rattle.std.proofs.lemmas.Bool.{lt-ltb}
 use Rattle.std.proofs.lemmas.List.Elements.{All-head, All-tail}
-use Rattle.x86_values.specs.declared.word.Word.{Word}
 use Rattle.x86_values.specs.Sizes.{no_word}
 use Rattle.x86_types.specs.declared.operand.Reg.{Reg}
 use Rattle.x86_types.specs.declared.operand.Reg.TheVariants.{Eax, Ecx, Edx, Ebx, Esp, Ebp, Esi, Edi}
@@ -16,7 +15,7 @@ use Rattle.x86_types.specs.Numbers.{number_of_reg}
 use Rattle.x86_types.specs.Registers.{RegisterField, Index, Whole, Byte}
 use Rattle.x86_meaning.specs.Registers.{Registers, byte_place, machine_naming}
 use Rattle.field_places.specs.Fields.{Field, fields, product_registers, count_registers, repeat_registers, implicit_registers}
-use Rattle.field_places.specs.Pairs.{Pairs, ArePaired, IsOneToOne, HoldTheSame, KindIsPaired, FieldsArePaired, PairedWithThemselves, UsesPairs}
+use Rattle.field_places.specs.Pairs.{Pairs, ArePaired, IsOneToOne, KindIsPaired, FieldsArePaired, PairedWithThemselves, UsesPairs}
 use Rattle.named_code.specs.Form.{IsStackless}
 
 -- ---- the registers other than esp, each with itself

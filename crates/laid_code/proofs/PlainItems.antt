@@ -1,42 +1,34 @@
 -- The items that aren't jumps, and jumps to blocks: each is met by one step of the processor.
-use Rattle.std.proofs.Common.{◌≡◌, ◌≢◌, ◌⊎◌, inl, inr, ℕ, ◌+◌, ◌%◌, ◌<◌, ◌≤◌, ◌==◌, ◌&&◌, Bool, true, false, cond, List, [], ◌∷◌, ◌++◌, All, Contains, map, Option, Some, None, Result, Ok, Err, refl, sym, ap, ◌∙◌, subst, arith}
-use Rattle.std.proofs.lemmas.Bool.{eqb-true, eqb-false}
-use Rattle.outside.specs.Environment.{Environment}
-use Rattle.x86_values.specs.declared.word.Flags.{Flags}
-use Rattle.x86_values.specs.Words.{word_of, known}
+use Rattle.std.proofs.Common.{◌≡◌, ◌≢◌, ◌⊎◌, inl, inr, ℕ, ◌+◌, Bool, true, false, List, [], All, Contains, map, Option, Some, None, refl, sym, ap, ◌∙◌, subst, arith}
 use Rattle.x86_values.specs.Conditions.{condition}
 use Rattle.traces.specs.Trace.{Label, End, Move, Go, Halt}
 use Rattle.traces.specs.Trace as trace
-use Rattle.memory.specs.Memory.{Memory, Stored, wrapped, store_all}
-use Rattle.memory.specs.CallLaws.{is_own_end, IsPlainCall}
-use Rattle.memory.specs.SystemCall.{Request, Called, Ends, Gives, system_call}
+use Rattle.memory.specs.Memory.{Memory, wrapped}
+use Rattle.memory.specs.CallLaws.{is_own_end}
 use Rattle.x86_types.specs.declared.operand.Reg.TheVariants.{Esp}
 use Rattle.x86_types.specs.declared.operation.Cond.{Cond}
 use Rattle.x86_types.specs.declared.instr.Instr.{Instr}
 use Rattle.x86_types.specs.declared.instr.Instr.TheVariants as instr
 use Rattle.x86_code.specs.Code.{Code}
-use Rattle.x86_meaning.specs.Registers.{Registers, Processor, with_register, machine_naming}
-use Rattle.x86_meaning.specs.Outcomes.{Way, Falls, JumpsBy, JumpsTo, Repeats, Calls, jump_computed}
+use Rattle.x86_meaning.specs.Registers.{machine_naming}
+use Rattle.x86_meaning.specs.Outcomes.{Way, Falls, JumpsBy, JumpsTo, Repeats, Calls}
 use Rattle.x86_meaning.specs.Transfers.{transfer}
 use Rattle.x86_meaning.specs.Computing.{compute}
-use Rattle.x86_meaning.specs.Effect.{Effect, accesses, effect}
+use Rattle.x86_meaning.specs.Effect.{accesses, effect}
 use Rattle.x86_meaning.specs.Step.{State, settled, at_address, request_of, with_result, finish, step, next}
 use Rattle.x86_meaning.specs.Step as processor
 use Rattle.x86_meaning.specs.LessSpecified.{MoveLessSpecified}
 use Rattle.private_memory.specs.PrivateArea.{is_clear_access}
 use Rattle.field_places.specs.Fields.{fields}
 use Rattle.named_code.specs.Items.{Item, CodeBlock, own_item}
-use Rattle.named_code.specs.Running.{CodeState, CodePoint, AtNumber, AtOld, Inside, CodePosition, standing_at, after_call, onward, performed, act}
+use Rattle.named_code.specs.Running.{CodeState, CodePoint, AtNumber, Inside, CodePosition, standing_at, onward, performed, act}
 use Rattle.named_code.specs.Form.{IsStackless}
 use Rattle.named_code.specs.Weight.{Next, course_of, IsWayOf}
 use Rattle.laid_code.specs.Laid.{Places, Stands, Leads, Lies, IsLayable}
-use Rattle.laid_code.specs.LaidRun.{with_reserved, AreStatesBeside, StandsAt}
+use Rattle.laid_code.specs.LaidRun.{AreStatesBeside, StandsAt}
 use Rattle.laid_code.proofs.Given.{Given}
-use Rattle.laid_code.proofs.Memories.{IsUnreservedStore, stores_same, stores_keep_kinds}
-use Rattle.laid_code.proofs.OwnPairs.{registers_alone, alone_below}
 use Rattle.laid_code.proofs.Acting.{alone, EndAlike, GoAlike, both_moves}
-use Rattle.laid_code.proofs.Calling.{SameWhereAsked, UnreservedWhereAsked, call_same, stores_unreserved}
-use Rattle.laid_code.proofs.Stepping.{IsAlone, GoesBeside, EndsAs, is_alone, less_move, goes_beside, ends_as}
+use Rattle.laid_code.proofs.Stepping.{IsAlone, is_alone, less_move, goes_beside, ends_as}
 use Rattle.laid_code.proofs.Moving.{Simulated, awake, goes_met, ends_met}
 
 module _ (given : Given) (l : Places) (code : Code) (blocks : List CodeBlock) (first : Memory) (s : CodeState) (t : State) (states : AreStatesBeside first s t) where

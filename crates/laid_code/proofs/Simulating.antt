@@ -1,12 +1,11 @@
 -- The processor simulates the code.
-use Rattle.std.proofs.Common.{◌≡◌, ◌≢◌, ◌⊎◌, inl, inr, ℕ, ◌+◌, ◌≤◌, ◌<◌, ◌==◌, ◌||◌, Bool, true, false, cond, leb, ltb, List, [], ◌∷◌, ◌++◌, All, Contains, map, Option, Some, None, refl, sym, ap, ◌∙◌, subst, arith}
+use Rattle.std.proofs.Common.{◌≡◌, ◌≢◌, ℕ, ◌+◌, ◌==◌, ◌||◌, Bool, true, false, cond, leb, ltb, List, [], ◌∷◌, All, Contains, map, Option, Some, None, refl, sym, ap, ◌∙◌, subst, arith}
 use Rattle.std.specs.List.{list_all}
 use Rattle.std.proofs.lemmas.Bool.{ltb-false, leb-false}
 use Rattle.std.proofs.lemmas.List.Elements.{All-head, All-tail}
 use Rattle.traces.specs.Trace.{Label, Turn, Outside, Move, Stand, Go, Halt, seen, events, run}
 use Rattle.traces.specs.Trace as trace
 use Rattle.traces.specs.Machines.{marked}
-use Rattle.traces.specs.Simulation.{Fits}
 use Rattle.memory.specs.Memory.{Memory}
 use Rattle.x86_types.specs.declared.operand.Reg.TheVariants.{Esp}
 use Rattle.x86_types.specs.declared.instr.Instr.{Instr}
@@ -21,9 +20,9 @@ use Rattle.private_memory.specs.PrivateArea.{is_clear_access}
 use Rattle.field_places.specs.Fields.{fields}
 use Rattle.named_code.specs.Items.{Item, CodeBlock, own_item}
 use Rattle.named_code.specs.Running.{CodeState, CodePoint, AtNumber, AtOld, Inside, CodePosition, Marks, act, goes_on, marked_unless_zero, begun, move_at, block_of_number, block_at, code_next}
-use Rattle.named_code.specs.TestedRun.{call_buffer, item_accesses, first_accesses, items_found, items_at, position_accesses, turn_shown, turn_found, turn_at, all_pass, tested_next}
+use Rattle.named_code.specs.TestedRun.{call_buffer, item_accesses, first_accesses, items_found, items_at, turn_at, all_pass, tested_next}
 use Rattle.named_code.specs.Form.{IsStackless, NamesBlock}
-use Rattle.named_code.specs.Weight.{Next, Again, course_of, IsOnce, first_cost, entry_cost, cost_at, step_cost}
+use Rattle.named_code.specs.Weight.{Next, Again, course_of, first_cost, entry_cost, cost_at, step_cost}
 use Rattle.laid_code.specs.Laid.{Places, Stands, InstrStands, Lies, FoundAt, is_outside, place_of_old, IsLaid, IsLayable, AreLayable}
 use Rattle.laid_code.specs.LaidRun.{AreStatesBeside, StandsAt, IsBeside, HasTable, instr_steps, laid_steps}
 use Rattle.laid_code.proofs.Given.{Given}

@@ -1,17 +1,15 @@
 -- A step of the processor beside a step that it is known to make over the registers alone.
-use Rattle.std.proofs.Common.{◌≡◌, ◌≢◌, ℕ, ◌+◌, ◌<◌, Bool, true, false, ltb, List, [], ◌∷◌, Option, Some, None, refl, sym, ap, ◌∙◌, subst, arith}
+use Rattle.std.proofs.Common.{◌≡◌, ◌≢◌, ℕ, ◌<◌, Bool, true, false, ltb, List, [], Some, refl, sym, ap, ◌∙◌, subst, arith}
 use Rattle.std.proofs.lemmas.Bool.{ltb-true}
-use Rattle.outside.specs.Environment.{Environment, IsEnvironment}
-use Rattle.x86_values.specs.declared.word.Word.{Word}
-use Rattle.x86_values.specs.declared.word.Flags.{Flags}
+use Rattle.outside.specs.Environment.{IsEnvironment}
 use Rattle.x86_values.specs.Words.{word_of, known}
 use Rattle.x86_values.specs.LessSpecified.{WordLessSpecified, FlagsLessSpecified}
 use Rattle.traces.specs.Trace.{Label, End, Exited, OtherCall, Outside, MemoryFault, DivideFault, Guard, Stopped, Move, Stand, Go, Halt}
 use Rattle.traces.specs.Trace as trace
-use Rattle.memory.specs.Memory.{Memory, wrapped, forget_below}
+use Rattle.memory.specs.Memory.{Memory, forget_below}
 use Rattle.x86_types.specs.declared.instr.Instr.{Instr}
 use Rattle.x86_code.specs.Code.{Code}
-use Rattle.x86_meaning.specs.Step.{State, settled_by, settled, at_address, step, next}
+use Rattle.x86_meaning.specs.Step.{State, settled_by, settled, step, next}
 use Rattle.x86_meaning.specs.LessSpecified.{StateLessSpecified, MoveLessSpecified}
 use Rattle.named_code.specs.Running.{CodeState}
 use Rattle.laid_code.specs.LaidRun.{with_reserved, AreStatesBeside}

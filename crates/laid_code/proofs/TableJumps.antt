@@ -1,48 +1,31 @@
 -- A jump to an old address is met by the six instructions of a jump by the table.
-use Rattle.std.proofs.Common.{◌≡◌, ◌≢◌, ◌⊎◌, inl, inr, ℕ, ◌+◌, ◌-◌, ◌*◌, ◌%◌, ◌<◌, ◌≤◌, ◌==◌, ◌&&◌, ◌||◌, Bool, true, false, cond, leb, ltb, List, [], ◌∷◌, ◌++◌, All, map, Option, Some, None, Result, Ok, Err, refl, sym, ap, ap₂, ◌∙◌, subst, arith}
+use Rattle.std.proofs.Common.{◌≡◌, ◌≢◌, ◌⊎◌, inl, inr, ℕ, Bool, true, false, List, [], ◌∷◌, All, Option, Some, None, refl}
 use Rattle.std.specs.Option.{option_map}
-use Rattle.std.proofs.lemmas.Bool.{ltb-true, ltb-false, leb-true, lt-ltb, le-ltb}
 use Rattle.std.proofs.lemmas.List.Elements.{All-cons}
 use Rattle.x86_values.specs.declared.word.Word.{Word}
-use Rattle.x86_values.specs.Words.{word_of, known}
+use Rattle.x86_values.specs.Words.{known}
 use Rattle.traces.specs.Trace.{End, Move, Go, Halt, run, seen}
 use Rattle.traces.specs.Trace as trace
-use Rattle.traces.specs.Steps.{Goes}
-use Rattle.memory.specs.Memory.{Memory, Load, Store, wrapped, allows_all}
-use Rattle.memory.specs.CallLaws.{is_own_end}
+use Rattle.memory.specs.Memory.{Load, allows_all}
 use Rattle.x86_types.specs.declared.operand.Reg.{Reg}
 use Rattle.x86_types.specs.declared.operand.Reg.TheVariants.{Eax, Esp}
 use Rattle.x86_types.specs.declared.operand.Address.{Address}
 use Rattle.x86_types.specs.Numbers.{number_of_reg}
 use Rattle.x86_types.specs.declared.operand.Rm.{Rm}
 use Rattle.x86_types.specs.declared.operand.Rm.TheVariants as rm
-use Rattle.x86_types.specs.declared.operand.Src.TheVariants as src
 use Rattle.x86_types.specs.declared.width.Width.TheVariants.{Four}
 use Rattle.x86_types.specs.declared.instr.Instr.{Instr}
 use Rattle.x86_types.specs.declared.instr.Instr.TheVariants as instr
-use Rattle.x86_code.specs.Code.{Code}
-use Rattle.x86_meaning.specs.declared.stop.Stop.{Stop}
-use Rattle.x86_meaning.specs.declared.stop.Stop.TheVariants.{MemoryFault}
-use Rattle.x86_meaning.specs.declared.stop.Stop.TheVariants as stop
-use Rattle.x86_meaning.specs.Registers.{Registers, Processor, with_register, machine_naming}
-use Rattle.x86_meaning.specs.Operands.{Location, InRegister, InMemory, Constant, Access, operand, value_in, location_of, effective_address}
+use Rattle.x86_meaning.specs.Registers.{Registers, with_register, machine_naming}
+use Rattle.x86_meaning.specs.Operands.{Location, InRegister, InMemory, Access, operand, value_in, effective_address}
 use Rattle.x86_meaning.specs.TransferShapes.{read_transfer, move_transfer, by_one, by_two}
-use Rattle.x86_meaning.specs.Outcomes.{Falls, JumpsTo, goes_to}
 use Rattle.x86_meaning.specs.Transfers.{transfer}
 use Rattle.x86_meaning.specs.Computing.{compute}
-use Rattle.x86_meaning.specs.Effect.{Effect, transfer_accesses, effect_of, accesses, effect}
-use Rattle.x86_meaning.specs.Step.{State, all_allowed, end_of, settled, at_address, finish, step, next}
-use Rattle.x86_meaning.specs.Step as processor
-use Rattle.x86_meaning.specs.LessSpecified.{MoveLessSpecified}
-use Rattle.private_memory.specs.PrivateArea.{is_clear_access}
+use Rattle.x86_meaning.specs.Effect.{transfer_accesses, accesses, effect}
 use Rattle.field_places.specs.Fields.{Field, fields, sized_field, address_fields}
-use Rattle.named_code.specs.Items.{Item, CodeBlock, own_item}
-use Rattle.named_code.specs.Running.{CodeState, AtOld, Inside, CodePosition, standing_at, by_loads, performed, lost, act}
-use Rattle.laid_code.specs.Laid.{Places, Stands, Leads, eax, as_source, JumpsByTable}
-use Rattle.laid_code.specs.LaidRun.{AreStatesBeside, HasTable}
-use Rattle.laid_code.proofs.Given.{Given}
-use Rattle.laid_code.proofs.Acting.{alone, EndAlike, GoAlike, both_moves}
-use Rattle.laid_code.proofs.Stepping.{IsAlone, GoesBeside, less_move, goes_beside, ends_as}
+use Rattle.named_code.specs.Items.{Item, own_item}
+use Rattle.named_code.specs.Running.{CodeState, AtOld, Inside, CodePosition, standing_at, lost, act}
+use Rattle.laid_code.specs.Laid.{eax, as_source}
 
 -- ---- what the jump does, and the MOV that takes its operand
 abbrev pub value : CodeState → Location → Word

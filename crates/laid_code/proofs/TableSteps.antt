@@ -1,6 +1,5 @@
 -- The instructions of a jump by the table, a step at a time. Beside them the code is in a state whose registers and flags are lost.
-use Rattle.std.proofs.Common.{◌≡◌, ◌≢◌, ℕ, zero, suc, ◌+◌, ◌-◌, ◌*◌, ◌%◌, ◌<◌, ◌≤◌, ◌==◌, ◌&&◌, Bool, true, false, not, cond, ltb, List, [], ◌∷◌, Option, Some, None, refl, sym, ap, ap₂, ◌∙◌, subst, arith}
-use Rattle.std.specs.Option.{option_map}
+use Rattle.std.proofs.Common.{◌≡◌, ℕ, ◌+◌, ◌-◌, ◌*◌, ◌%◌, ◌<◌, ◌==◌, ◌&&◌, Bool, true, false, not, cond, ltb, [], Some, refl, sym, ap, ap₂, ◌∙◌, subst, arith}
 use Rattle.std.proofs.lemmas.Bool.{eqb-true, lt-ltb}
 use Rattle.x86_values.specs.declared.word.Word.{Word}
 use Rattle.x86_values.specs.declared.word.Flags.{Flags}
@@ -8,12 +7,11 @@ use Rattle.x86_values.specs.Results.{no_result}
 use Rattle.x86_values.specs.Sizes.{no_word, cut, number}
 use Rattle.x86_values.specs.Sums.{difference, of_known, sub}
 use Rattle.x86_values.specs.Words.{word_of, word_list, known, padded}
-use Rattle.x86_values.specs.Conditions.{condition}
 use Rattle.x86_values.specs.LessSpecified.{WordLessSpecified, BytesLessSpecified}
-use Rattle.traces.specs.Trace.{Move, Go}
+use Rattle.traces.specs.Trace.{Go}
 use Rattle.traces.specs.Steps.{Goes}
 use Rattle.memory.specs.Memory.{Memory, Load, wrapped, allows_all, bytes_at, forget_below, SameIn}
-use Rattle.memory.specs.LessSpecified.{PlaceLessSpecified, MemoryLessSpecified}
+use Rattle.memory.specs.LessSpecified.{PlaceLessSpecified}
 use Rattle.x86_types.specs.declared.operand.Src.TheVariants as src
 use Rattle.x86_types.specs.declared.operation.AluOp.TheVariants as alu
 use Rattle.x86_types.specs.declared.operation.Cond.TheVariants as cond_
@@ -27,7 +25,7 @@ use Rattle.x86_meaning.specs.Computing.{compute}
 use Rattle.x86_meaning.specs.Effect.{accesses, effect}
 use Rattle.x86_meaning.specs.Step.{State, settled_by, settled, at_address, finish, step, next}
 use Rattle.private_memory.specs.PrivateArea.{is_unreserved}
-use Rattle.named_code.specs.Running.{CodeState, names_alone, lost}
+use Rattle.named_code.specs.Running.{CodeState, lost}
 use Rattle.laid_code.specs.Laid.{Places, Stands, Leads, eax, table_word}
 use Rattle.laid_code.specs.LaidRun.{with_reserved, AreMemoriesBeside, AreStatesBeside, HasTable}
 use Rattle.laid_code.proofs.Given.{Given}
@@ -90,19 +88,21 @@ module _ (given : Given) (first : Memory) (code : Code) (s : CodeState) where
   unfolding settled
   goes_on t w i len h stands steps esp memory left =
       let known_esp : known (w.cpu.regs 4) ≡ Some 0 =
-          ap known esp ∙ given.less_words.same_word (s.cpu.regs 4) (t.cpu.regs 4) 0 (h.registers 4 (omega arith)) (ap known h.esp ∙ given.words.known_word 0 (omega arith)) in
-      let moves : next code t ≡ Go [] (record w { memory = forget_below 0 w.memory }) = given.steps.at_instruction code t i len stands ∙ (steps ∙ ap (λ o. settled_by o [] w) known_esp) in
-      (given.runs.goes_step (next code) t [] _ moves, record {
-        registers = lost_registers w.cpu.regs (subst (WordLessSpecified (s.cpu.regs 4)) (sym esp) (h.registers 4 (omega arith)));
-        esp = h.esp;
-        flags = record { cf = tt; pf = tt; zf = tt; sf = tt; of = tt };
-        memory = record {
-          free = h.memory.free;
-          less = record { places = λ a. subst (PlaceLessSpecified (with_reserved first s.memory a)) (ap (λ (m : Memory). m a) (sym memory) ∙ sym (nothing_forgotten given.memory first w.memory a)) (h.memory.less.places a) };
-        };
-        left = h.left ∙ sym left;
-        environment = h.environment;
-      })
+      ap known esp ∙ given.less_words.same_word (s.cpu.regs 4) (t.cpu.regs 4) 0 (h.registers 4 (omega arith)) (ap known h.esp ∙ given.words.known_word 0 (omega arith)) in
+      let moves : next code t ≡ Go [] (record w { memory = forget_below 0 w.memory }) = given.steps.at_instruction code t i len stands ∙ (steps ∙ ap (λ o. settled_by o [] w) known_esp) in (
+        given.runs.goes_step (next code) t [] _ moves,
+        record {
+          registers = lost_registers w.cpu.regs (subst (WordLessSpecified (s.cpu.regs 4)) (sym esp) (h.registers 4 (omega arith)));
+          esp = h.esp;
+          flags = record { cf = tt; pf = tt; zf = tt; sf = tt; of = tt };
+          memory = record {
+            free = h.memory.free;
+            less = record { places = λ a. subst (PlaceLessSpecified (with_reserved first s.memory a)) (ap (λ (m : Memory). m a) (sym memory) ∙ sym (nothing_forgotten given.memory first w.memory a)) (h.memory.less.places a) };
+          };
+          left = h.left ∙ sym left;
+          environment = h.environment;
+        },
+      )
 
   -- one step of the jump
   pub record HoldsOn (a q : ℕ) (t : State) : Type 0 where

@@ -1,6 +1,5 @@
 -- The beginning of laid code: esp is stored where the code finds it, and is made 0. All of this is own.
 use Rattle.std.specs.Prelude.{◌≡◌, ℕ, ◌+◌, ◌<◌, ◌≤◌, Bool, true, false, not, List, [], Option, Some, None}
-use Rattle.std.specs.List.{slice_get}
 use Rattle.outside.specs.Environment.{Environment, IsEnvironment}
 use Rattle.x86_values.specs.Words.{word_of, word_list}
 use Rattle.traces.specs.Steps.{Goes}

@@ -1,6 +1,6 @@
 -- What it is for code to be laid: its items stand one behind the other in the code of the processor. Nothing here knows bytes, so how long
 -- a spelling is, and whether a jump is short or long, makes no difference. All of this is own.
-use Rattle.std.specs.Prelude.{◌≡◌, ◌≢◌, ◌⊎◌, ℕ, ◌+◌, ◌*◌, ◌<◌, ◌≤◌, ◌||◌, Bool, true, cond, leb, ltb, List, [], ◌∷◌, map, All, Option, Some, None}
+use Rattle.std.specs.Prelude.{◌≡◌, ◌≢◌, ℕ, ◌+◌, ◌*◌, ◌<◌, ◌≤◌, ◌||◌, Bool, true, cond, leb, ltb, List, [], ◌∷◌, map, All, Option, Some, None}
 use Rattle.x86_types.specs.declared.operand.Reg.TheVariants.{Eax, Esp}
 use Rattle.x86_types.specs.declared.operand.Rm.{Rm}
 use Rattle.x86_types.specs.declared.operand.Rm.TheVariants as rm

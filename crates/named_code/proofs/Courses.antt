@@ -19,7 +19,7 @@ use Rattle.x86_meaning.specs.Registers.{Registers, Processor, Naming}
 use Rattle.x86_meaning.specs.Operands.{Location, InRegister, InMemory, Constant, SizedOperand, values_in}
 use Rattle.x86_meaning.specs.TransferShapes.{Transfer, movs_transfer, stos_transfer}
 use Rattle.x86_meaning.specs.Transfers.{transfer}
-use Rattle.x86_meaning.specs.Outcomes.{Way, Falls, JumpsBy, JumpsTo, Repeats, Calls, Computation, on_one, on_two, on_three, alu_computed, quotient_and_remainder, goes_to, jump_computed}
+use Rattle.x86_meaning.specs.Outcomes.{Way, Calls, Computation, on_one, on_two, on_three, alu_computed, quotient_and_remainder, goes_to, jump_computed}
 use Rattle.x86_meaning.specs.Effect.{Effect, written_to, all_written, effect_of, effect_by, effect}
 use Rattle.x86_meaning.specs.Computing.{compute}
 use Rattle.named_code.specs.Weight.{Course, Next, ToBlock, Either, ToOld, Again, course_of, IsWayOf}

@@ -3,7 +3,7 @@ use Rattle.std.proofs.Common.{◌≡◌, ◌⊎◌, ℕ, zero, suc, ◌+◌, ◌
 use Rattle.std.proofs.lemmas.Bool.{and_parts, or_left, or_right, ltb-false, ltb-true, leb-true, le-leb}
 use Rattle.memory.specs.Memory.{Memory, wrapped, allows_all, AreApart}
 use Rattle.x86_meaning.specs.Operands.{Access}
-use Rattle.private_memory.specs.PrivateArea.{AreElsewhere, IsApartAccess, AreUnreserved, IsClearAccess, each_address, lies_beside, is_elsewhere, is_apart_access, is_unreserved, is_clear_access}
+use Rattle.private_memory.specs.PrivateArea.{IsApartAccess, IsClearAccess, each_address, lies_beside, is_elsewhere, is_apart_access, is_unreserved, is_clear_access}
 
 -- ---- one address beside one range
 below_or_above : (low high a : ℕ) → lies_beside low high a ≡ true → (a < low) ⊎ (high ≤ a)
@@ -70,7 +70,7 @@ module _ (at count : ℕ) (high : at + count ≤ 4294967296) where
   apart_by : (from n : ℕ) → each_address lies_elsewhere from n ≡ true → AreApart from n 0x60000000 0x15000000 × AreApart from n at count
   apart_by from n h =
       let parts : (j : ℕ) → j < n → (lies_beside 0x60000000 0x75000000 (wrapped (from + j)) ≡ true) × (lies_beside at (at + count) (wrapped (from + j)) ≡ true)
-          = λ j l. and_parts (lies_beside 0x60000000 0x75000000 (wrapped (from + j))) (lies_beside at (at + count) (wrapped (from + j))) (each_elsewhere from n h j l) in
+      = λ j l. and_parts (lies_beside 0x60000000 0x75000000 (wrapped (from + j))) (lies_beside at (at + count) (wrapped (from + j))) (each_elsewhere from n h j l) in
       (ranges_apart from n 0x60000000 0x15000000 (omega arith) (λ j l. (parts j l).0), ranges_apart from n at count high (λ j l. (parts j l).1))
 
   apart_all : (from n : ℕ) → AreApart from n 0x60000000 0x15000000 → AreApart from n at count → each_address lies_elsewhere from n ≡ true
