@@ -21,7 +21,7 @@ use Rattle.name_cells.specs.CanBePlaced.{IsInstrPlaceable, CanBePlaced}
 
 -- ---- the blocks have the same numbers and old addresses
 abbrev pub HasBlocksOf : List VBlock → Placed → Type 0
-HasBlocksOf code p = map {B = ℕ × ℕ} (λ (b : PBlock). (b.number, b.at)) p.blocks ≡ map {B = ℕ × ℕ} (λ (b : VBlock). (b.number, b.at)) code
+HasBlocksOf code p = map {B = ℕ × ℕ} (λ b. (b.number, b.at)) p.blocks ≡ map (λ b. (b.number, b.at)) code
 
 -- ---- each turn of the code has so many steps at most
 abbrev pub HasShortTurns : Marks → List VBlock → Type 0
