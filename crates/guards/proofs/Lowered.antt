@@ -1,5 +1,5 @@
 -- The unit that is made does what lowering promises.
-use Rattle.std.proofs.Common.{◌≡◌, ℕ, refl, ◌∙◌, subst, arith}
+use Rattle.std.proofs.Common.{◌≡◌, refl, ◌∙◌, subst, arith}
 use Rattle.traces.specs.Trace.{Behaviour}
 use Rattle.traces.specs.RunLaws.{RunLaws}
 use Rattle.traces.specs.Turns.{RefinesByTurns}

@@ -1,5 +1,5 @@
 -- The unit with its temporaries numbered anew keeps form, shape, names and costs, and its temporaries have small numbers.
-use Rattle.std.proofs.Common.{◌≡◌, ℕ, zero, suc, ◌^◌, ◌<◌, ◌≤◌, ◌+◌, ◌==◌, cond, List, [], ◌∷◌, map, length, get_or, All, Contains, Some, None, refl, sym, ap, ◌∙◌, subst, arith}
+use Rattle.std.proofs.Common.{◌≡◌, ℕ, zero, suc, ◌^◌, ◌<◌, ◌≤◌, ◌+◌, ◌==◌, cond, List, [], ◌∷◌, map, length, All, Contains, Some, None, refl, sym, ap, ◌∙◌, subst, arith}
 use Rattle.std.specs.List.{slice_get}
 use Rattle.std.proofs.lemmas.List.{length-map}
 use Rattle.std.proofs.lemmas.List.Elements.{All-cons, All-contains}
@@ -21,7 +21,7 @@ use Rattle.flag_ir.specs.Costs.{Costing, list_cost, block_cost, allowed, BoundsT
 use Rattle.guards.specs.Temporaries.{IsVarBelow, IsTermBelow, IsOpBelow, IsExitBelow, IsBlockBelow, HasTempsBelow}
 use Rattle.guards.specs.Guarding.{AreAddresses}
 use Rattle.guards.specs.Lowering.{names_of}
-use Rattle.guards.specs.Renumbering.{renumbered_var, renumbered_term, renumbered_op, renumbered_exit, written_temps, WritesFewTemps, new_number, block_numbers, renumbered_block, renumbered_unit, IgnoresTemps}
+use Rattle.guards.specs.Renumbering.{renumbered_var, renumbered_term, renumbered_op, renumbered_exit, written_temps, WritesFewTemps, block_numbers, renumbered_block, renumbered_unit, IgnoresTemps}
 use Rattle.guards.proofs.Keeping.{all_first, all_rest}
 use Rattle.guards.proofs.SideBySide.{among}
 use Rattle.guards.proofs.Numbering.{new_small}
