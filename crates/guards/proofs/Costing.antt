@@ -44,7 +44,7 @@ module _ (c : Costing) (store : ℕ) (small : (at : ℕ) → c.op (turn_store at
 
 -- ---- units
 pub lowered_costs : (u : CodeUnit) → LoweredCosts u (guarded_unit u)
-lowered_costs u c w store rest small bound = record { block = block; onward = onward; return = λ p k b part j d g none. none_in p g.from.0 }
+lowered_costs u c w store rest plain small bound = record { block = block; onward = onward; return = λ p k b part j d g none. none_in p g.from.0 }
   where
     loose : Bool
     loose = has_loose_stop u.whole

@@ -15,6 +15,7 @@ pub mod RenumberedRuns
 pub mod SideBySide
 pub mod Shaping
 pub mod RenumberedUnits
+pub mod RenumberedCosts
 pub mod Costing
 pub mod Starting
 pub mod Safety

@@ -3,7 +3,7 @@ use Rattle.std.proofs.Common.{◌≡◌, ℕ, zero, suc, ◌+◌, ◌*◌, ◌==
 use Rattle.x86_values.specs.declared.word.Word.{Word}
 use Rattle.x86_values.specs.declared.byte.Byte.{Byte}
 use Rattle.x86_values.specs.Words.{known, padded, word_of}
-use Rattle.traces.specs.Trace.{End, Outside, Stopped, MemoryFault}
+use Rattle.traces.specs.Trace.{End, Outside, Stopped}
 use Rattle.memory.specs.Memory.{wrapped, bytes_at, put}
 use Rattle.flag_ir.specs.declared.block.Block.{Block}
 use Rattle.flag_ir.specs.declared.block.Exit.{Exit}
@@ -15,7 +15,7 @@ use Rattle.flag_ir.specs.Calculations.{sum_of}
 use Rattle.flag_ir.specs.Storage.{Frame, Storage, put_word, term_in}
 use Rattle.flag_ir.specs.Frames.{covers, with_image, with_caller_byte, copied_back, forget_by}
 use Rattle.flag_ir.specs.Operations.{and_then, needed}
-use Rattle.flag_ir.specs.Entering.{CodeUnit, Onward, blocks_of, index_of_number, index_at, procedure_at, before_block, to_number, is_too_deep, new_frame, with_new_frame, opened, open_frame, jump_by, jump_with, jump, is_within_caller, call_from, call_by, word_of_frame, are_equal, unless_changed, checked, closed, back_to, return_from, stop_at, leave}
+use Rattle.flag_ir.specs.Entering.{CodeUnit, Onward, blocks_of, index_of_number, index_at, procedure_at, before_block, to_number, is_too_deep, new_frame, with_new_frame, opened, jump_by, jump_with, jump, is_within_caller, call_from, call_by, word_of_frame, are_equal, unless_changed, checked, closed, back_to, return_from, stop_at, leave}
 use Rattle.guards.specs.Renumbering.{renumbered_term, renumbered_exit, renumbered_block, renumbered_unit}
 use Rattle.guards.proofs.GuardedBlocks.{position_mapped}
 use Rattle.guards.proofs.RenumberedOps.{mapped, then_mapped, cond_mapped, renamed, term_read}

@@ -1,5 +1,5 @@
 -- An operation with other numbers of temporaries does the same, where those that it writes are told apart from all others.
-use Rattle.std.proofs.Common.{◌≡◌, ℕ, ◌+◌, ◌==◌, ℤ, ◌||◌, Bool, true, false, cond, List, [], ◌∷◌, ◌++◌, take, Option, Some, None, Result, Ok, Err, refl, sym, ap, ◌∙◌}
+use Rattle.std.proofs.Common.{◌≡◌, ℕ, ℤ, ◌||◌, Bool, true, false, cond, List, [], ◌∷◌, take, Option, Some, None, Result, Ok, Err, refl, ap, ◌∙◌}
 use Rattle.std.specs.Bool.{nat_eq}
 use Rattle.std.specs.List.{list_any}
 use Rattle.std.proofs.lemmas.Bool.{eq-eqb}
@@ -9,7 +9,7 @@ use Rattle.x86_values.specs.declared.divided.Divided.TheVariants as divided
 use Rattle.x86_values.specs.Divisions.{divide}
 use Rattle.x86_values.specs.Words.{known, word_list}
 use Rattle.x86_values.specs.Sizes.{no_word}
-use Rattle.traces.specs.Trace.{End, Stopped, Outside}
+use Rattle.traces.specs.Trace.{End, Stopped}
 use Rattle.memory.specs.SystemCall.{Called, Ends, Gives}
 use Rattle.flag_ir.specs.declared.variable.Var.{Var}
 use Rattle.flag_ir.specs.declared.variable.Var.TheVariants as var
@@ -22,7 +22,7 @@ use Rattle.flag_ir.specs.Storage.{Frame, Storage, put_var, var_in, term_in}
 use Rattle.flag_ir.specs.Frames.{reached_frames, all_covered, put_near_all, is_judged}
 use Rattle.flag_ir.specs.Operations.{and_then, needed, load, store, with_memory, with_frame, near_load, near_store, get_of, put_of, in_frames, judged_buffer, near_call_by, labels_of, called, called_near, call_in, near_call_in, near_system, buffer_in, picked, divided_into, perform, shown_by}
 use Rattle.guards.specs.Renumbering.{renumbered_var, renumbered_term, renumbered_op, temp_of, temps_written}
-use Rattle.guards.proofs.Numbering.{IsTold, AreTold, told_first, told_rest}
+use Rattle.guards.proofs.Numbering.{AreTold, told_first, told_rest}
 
 -- ---- results, mapped
 abbrev pub mapped : {A B : Type 0} → (A → B) → Result A End → Result B End

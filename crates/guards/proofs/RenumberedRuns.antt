@@ -1,12 +1,9 @@
 -- The same is seen of a unit and of the unit with its temporaries numbered anew: both go step by step.
-use Rattle.std.proofs.Common.{◌≡◌, ℕ, zero, suc, ◌==◌, Bool, true, false, cond, List, [], ◌∷◌, ◌++◌, map, Option, Some, None, Result, Ok, Err, refl, sym, ap, ap₂, ◌∙◌, subst}
+use Rattle.std.proofs.Common.{◌≡◌, ℕ, zero, suc, ◌==◌, Bool, true, false, cond, List, [], ◌∷◌, map, Option, Some, None, Result, Ok, Err, refl, sym, ap, ◌∙◌, subst}
 use Rattle.std.specs.List.{slice_get, flat_map}
-use Rattle.x86_values.specs.Sizes.{no_word}
-use Rattle.outside.specs.Environment.{Environment}
-use Rattle.traces.specs.Trace.{Label, Turn, End, Outside, Seen, seen, before, Move, Stand, Go, Halt, run}
+use Rattle.traces.specs.Trace.{Label, Turn, End, seen, before, Move, Stand, Go, Halt, run}
 use Rattle.traces.specs.Machines.{marked}
 use Rattle.traces.specs.RunLaws.{RunLaws}
-use Rattle.memory.specs.Memory.{Memory}
 use Rattle.flag_ir.specs.declared.variable.Var.{Var}
 use Rattle.flag_ir.specs.declared.variable.Var.TheVariants as var
 use Rattle.flag_ir.specs.declared.variable.Term.{Term}

@@ -1,5 +1,5 @@
 -- The unit with its temporaries numbered anew keeps form, shape, names and costs, and its temporaries have small numbers.
-use Rattle.std.proofs.Common.{◌≡◌, ℕ, zero, suc, ◌<◌, ◌≤◌, ◌+◌, ◌==◌, cond, List, [], ◌∷◌, map, length, get_or, All, Contains, Some, None, refl, sym, ap, ◌∙◌, subst, arith}
+use Rattle.std.proofs.Common.{◌≡◌, ℕ, zero, suc, ◌^◌, ◌<◌, ◌≤◌, ◌+◌, ◌==◌, cond, List, [], ◌∷◌, map, length, All, Contains, Some, None, refl, sym, ap, ◌∙◌, subst, arith}
 use Rattle.std.specs.List.{slice_get}
 use Rattle.std.proofs.lemmas.List.{length-map}
 use Rattle.std.proofs.lemmas.List.Elements.{All-cons, All-contains}
@@ -19,8 +19,9 @@ use Rattle.flag_ir.specs.Form.{IsVar, IsTerm, IsOp, IsExit, IsFrameless, IsFrame
 use Rattle.flag_ir.specs.Shape.{Part, part_blocks, named_by, IsBlock, GoesTo, ReturnsTo, IsWellShaped}
 use Rattle.flag_ir.specs.Costs.{Costing, list_cost, block_cost, allowed, BoundsTurns}
 use Rattle.guards.specs.Temporaries.{IsVarBelow, IsTermBelow, IsOpBelow, IsExitBelow, IsBlockBelow, HasTempsBelow}
+use Rattle.guards.specs.Guarding.{AreAddresses}
 use Rattle.guards.specs.Lowering.{names_of}
-use Rattle.guards.specs.Renumbering.{renumbered_var, renumbered_term, renumbered_op, renumbered_exit, written_temps, WritesFewTemps, new_number, block_numbers, renumbered_block, renumbered_unit, IgnoresTemps}
+use Rattle.guards.specs.Renumbering.{renumbered_var, renumbered_term, renumbered_op, renumbered_exit, written_temps, WritesFewTemps, block_numbers, renumbered_block, renumbered_unit, IgnoresTemps}
 use Rattle.guards.proofs.Keeping.{all_first, all_rest}
 use Rattle.guards.proofs.SideBySide.{among}
 use Rattle.guards.proofs.Numbering.{new_small}
@@ -182,13 +183,25 @@ pub names_same : (blocks : List Block) → map names_of (map renumbered_block bl
 names_same [] = refl
 names_same (b ∷ bs) = ap (λ l. (b.number, b.at) ∷ l) (names_same bs)
 
-pub temps_small : (blocks : List Block) → All WritesFewTemps blocks → HasTempsBelow 524289 (map renumbered_block blocks)
-temps_small blocks few = each_made blocks (IsBlockBelow 524289) (λ b c.
-    let small : (n : ℕ) → block_numbers b n < 524289 = λ n. (let low : block_numbers b n ≤ length (written_temps b.ops) = new_small (written_temps b.ops) n in let high : length (written_temps b.ops) ≤ 524288 = All-contains WritesFewTemps blocks b few c in omega arith) in
-    record {
-      ops = all_ops (block_numbers b) (λ o. Unit {0}) (IsOpBelow 524289) (λ o u. op_small (block_numbers b) 524289 small o) b.ops (λ k d l. tt);
-      exit = exit_small (block_numbers b) 524289 small b.exit;
-    })
+pub temps_small : (limit : ℕ) → 524288 < limit → (blocks : List Block) → All WritesFewTemps blocks → HasTempsBelow limit (map renumbered_block blocks)
+temps_small limit high blocks few = each_made blocks (IsBlockBelow limit) (λ b c. record {
+  ops = all_ops (block_numbers b) (λ o. Unit {0}) (IsOpBelow limit) (λ o t. op_small (block_numbers b) limit (small b c) o) b.ops (λ k d l. tt);
+  exit = exit_small (block_numbers b) limit (small b c) b.exit;
+})
+  where
+    small : (b : Block) → Contains blocks b → (n : ℕ) → block_numbers b n < limit
+    small b c n =
+        let low : block_numbers b n ≤ length (written_temps b.ops) = new_small (written_temps b.ops) n in
+        let few_here : length (written_temps b.ops) ≤ 524288 = All-contains WritesFewTemps blocks b few c in
+        omega (arith, high)
+
+pub addresses_new : (blocks : List Block) → AreAddresses blocks → AreAddresses (map renumbered_block blocks)
+addresses_new blocks h = all_made (λ (b : Block). b.at < 2 ^ 32) (λ (b : Block). b.at < 2 ^ 32) (λ b low. low) blocks h
+
+pub addresses_old : (blocks : List Block) → AreAddresses (map renumbered_block blocks) → AreAddresses blocks
+addresses_old [] h = λ k d l. absurd (omega arith)
+addresses_old (b ∷ bs) h =
+    All-cons (λ (x : Block). x.at < 2 ^ 32) b bs (all_first (λ (x : Block). x.at < 2 ^ 32) (renumbered_block b) (map renumbered_block bs) h) (addresses_old bs (all_rest (λ (x : Block). x.at < 2 ^ 32) (renumbered_block b) (map renumbered_block bs) h))
 
 frameless_same : (b : Block) → IsFramelessBlock b → IsFramelessBlock (renumbered_block b)
 frameless_same b h = record { ops = all_ops (block_numbers b) IsFrameless IsFrameless (op_frameless (block_numbers b)) b.ops h.ops; exit = exit_frameless (block_numbers b) b.exit h.exit }

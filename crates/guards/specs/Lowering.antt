@@ -15,6 +15,7 @@ use Rattle.flag_ir.specs.Shape.{Part, IsWellShaped}
 use Rattle.flag_ir.specs.Costs.{Costing, BoundsTurns}
 use Rattle.private_memory.specs.PrivateArea.{without_private, IsUsual, IsApartAccess}
 use Rattle.guards.specs.Temporaries.{HasTempsBelow}
+use Rattle.guards.specs.Renumbering.{IgnoresTemps}
 use Rattle.guards.specs.Guarding.{turn_store, lowered_costing}
 
 -- over every usual memory, from every start, the second unit does by turns what the first one does over that memory without its
@@ -34,10 +35,10 @@ KeepsApart v =
 abbrev pub names_of : Block → ℕ × ℕ
 names_of b = (b.number, b.at)
 
--- a turn costs what its operations become, and one more store at most
+-- a turn costs what its operations become, and one more store at most, by each costing that looks at no number of a temporary
 abbrev pub LoweredCosts : CodeUnit → CodeUnit → Type 0
 LoweredCosts u v =
-    (c : Costing) (w store : ℕ) (rest : Part → ℕ → ℕ) → ((at : ℕ) → c.op (turn_store at) ≤ store) → BoundsTurns (lowered_costing c) w rest u → BoundsTurns c (w + store) rest v
+    (c : Costing) (w store : ℕ) (rest : Part → ℕ → ℕ) → IgnoresTemps c → ((at : ℕ) → c.op (turn_store at) ≤ store) → BoundsTurns (lowered_costing c) w rest u → BoundsTurns c (w + store) rest v
 
 pub record Lowers (u v : CodeUnit) : Type 0 where
   pub form : IsInForm v

@@ -1,5 +1,6 @@
 // What is made of a unit does what lowering promises.
 ghost use Rattle.guards.specs.LoweringLaw.{LoweringLaw};
+ghost use Rattle.guards.specs.RenumberingLaw.{RenumberingLaw};
 
 use flag_ir::{UnitMeaning, pass_laws, unit_laws};
 use memory::{call_laws, less_specified_memory_laws, memory_laws};
@@ -29,6 +30,13 @@ impl Family for SafeStates {
     ghost Index = { Unit {0} };
 
     ghost At = { λ _. HoldingState IsSafe };
+}
+
+/// Its clause says that nothing that is seen of a unit changes where its temporaries are numbered anew.
+pub fn renumbering_law()
+    ensures { RenumberingLaw }
+{
+    run_laws::<UnitMeaning>();
 }
 
 /// Its clause says that the guarded unit of a unit does what lowering promises.

@@ -10,5 +10,6 @@ mod tests;
 mod units;
 mod worked;
 
+pub use laws::renumbering_law;
 pub use units::lower;
 pub use worked::worked_units;

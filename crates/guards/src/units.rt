@@ -1,13 +1,14 @@
 // Units whose accesses stay outside the private area.
-ghost use Rattle.std.specs.Prelude.{◌≡◌, ◌&&◌, ◌<◌, ◌^◌, IfOk, [], false, map};
+ghost use Rattle.std.specs.Prelude.{◌≡◌, ◌&&◌, ◌<◌, ◌^◌, IfOk, [], false, map, All};
 ghost use Rattle.flag_ir.specs.Form.{IsInForm};
 ghost use Rattle.flag_ir.specs.Shape.{IsWellShaped};
 ghost use Rattle.guards.specs.Guarding.{guarded_block, has_loose_stop, is_stop, turn_stores, AreAddresses};
 ghost use Rattle.guards.specs.Lowering.{Lowers};
-ghost use Rattle.guards.specs.Temporaries.{HasTempsBelow};
+ghost use Rattle.guards.specs.Renumbering.{WritesFewTemps};
 
 use crate::laws::lowering_law;
 use crate::operations::guarded_ops;
+use crate::renumbering::renumbered_blocks;
 use flag_ir::{Block, BlockList, Exit, Op, OpList, ProcList, Term, Unit};
 use std::alloc::{AllocError, Global};
 
@@ -81,11 +82,11 @@ pub fn lower(alloc: Global, unit: Unit) -> Result<Unit, AllocError>
     requires shape { IsWellShaped unit }
     requires open { unit.lowered ≡ false }
     requires whole { unit.procs ≡ [] }
-    requires temps { HasTempsBelow 1399997 unit.whole }
+    requires few { All WritesFewTemps unit.whole }
     ensures { IfOk result (Lowers unit) }
 {
     lowering_law();
-    let blocks = unit.whole.into_vec();
+    let blocks = renumbered_blocks(alloc, unit.whole.as_slice())?;
     let loose = has_loose_stop(&blocks);
     let whole = guarded_blocks(alloc, loose, &blocks)?;
     Ok(Unit {
