@@ -27,6 +27,9 @@ module _ (procs : List Proc) (s : FrameStart) (first : ℕ) (m : Memory) (fs : L
       ap (λ (n : ℕ). ltb (s.height + 4194304) (u.esp0 + p.depth) || ltb u.esp0 s.height || ltb 50331648 n) (sum_by-cons frame_takes (frame_started procs s u) u.frames)
       ∙ ap (λ (n : ℕ). goes_too_deep u.esp0 s.height p.depth p.args n) taken ∙ ap (λ (e : ℕ). goes_too_deep e s.height p.depth p.args (taken_of fs)) o.esp0
 
+  pub tests_depth : (p : Proc) (t : Bool) → p ≡ started procs s → t ≡ goes_too_deep first s.height p.depth p.args (taken_of fs) → (u : Storage) → IsOpener u (frames_of procs fs) m s.ebp first → t ≡ is_too_deep u.esp0 (frame_started procs s u) u.frames
+  tests_depth p t is deep u o = deep ∙ ap (λ (x : Proc). goes_too_deep first s.height x.depth x.args (taken_of fs)) is ∙ sym (same_test u o)
+
   pub refuses_frame : (p : Proc) → p ≡ started procs s → true ≡ goes_too_deep first s.height p.depth p.args (taken_of fs) → Opens procs s first m (Ok false) fs fs
   refuses_frame p is deep = (
     λ u o. let t = same_test u o ∙ ap (λ (x : Proc). goes_too_deep first s.height x.depth x.args (taken_of fs)) (sym is) ∙ sym deep in

@@ -4,6 +4,7 @@ pub mod Putting
 pub mod Covering
 pub mod Accesses
 pub mod Storing
+pub mod Buffers
 pub mod FixedPlaces
 pub mod Outermost
 pub mod Fresh

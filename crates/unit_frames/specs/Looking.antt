@@ -5,7 +5,7 @@ use Rattle.std.specs.List.{position_or_len}
 use Rattle.x86_values.specs.declared.byte.Byte.{Byte}
 use Rattle.x86_values.specs.declared.byte.Byte.TheVariants.{Known}
 use Rattle.x86_values.specs.declared.word.Word.{Word}
-use Rattle.x86_values.specs.Words.{padded}
+use Rattle.x86_values.specs.Words.{known_byte, padded}
 use Rattle.memory.specs.Memory.{Memory, wrapped}
 use Rattle.flag_ir.specs.declared.procedure.FrameKind.{FrameKind}
 use Rattle.flag_ir.specs.declared.procedure.FrameKind.TheVariants.{Sealed, Guarded, Shared}
@@ -40,6 +40,11 @@ byte_kept count a fs = option_map (λ f. image_of f a) (find (is_in a) (take cou
 abbrev pub joined : Option Byte → Option Byte → Option Byte → Option Byte → Option Word
 joined (Some a) (Some b) (Some c) (Some d) = Some (record { b0 = a; b1 = b; b2 = c; b3 = d })
 joined _ _ _ _ = None
+
+-- the number of a byte that is there and known
+abbrev pub number_kept : Option Byte → Option ℕ
+number_kept None = None
+number_kept (Some b) = known_byte b
 
 -- a word of 1, 2 or 4 bytes in the first frames that cover them, where each is covered
 abbrev pub zero_byte : Option Byte

@@ -8,6 +8,7 @@ mod frame;
 mod frames;
 mod locals;
 mod near;
+mod near_bytes;
 mod opening;
 mod returning;
 #[cfg(test)]

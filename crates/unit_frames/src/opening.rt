@@ -2,12 +2,14 @@
 ghost use Rattle.std.specs.Prelude.{◌≡◌, ◌+◌, ◌<◌, ◌≤◌, ◌^◌, ℕ, List, length, cond, leb, map, slice_get, slice_index_or, IfOk, OnOk, OnErr, ◌∷◌};
 ghost use Rattle.std.specs.Option.{option_copied};
 ghost use Rattle.mem_pages.specs.Contents.{memory_in};
-ghost use Rattle.memory.specs.Memory.{byte_of};
+ghost use Rattle.memory.specs.Memory.{Memory, byte_of};
 ghost use Rattle.x86_values.specs.declared.byte.Byte.TheVariants.{Unspecified};
 ghost use Rattle.x86_values.specs.Sizes as sizes;
-ghost use Rattle.unit_frames.specs.Kept.{byte_from, takes, taken_of};
+ghost use Rattle.flag_ir.specs.Entering.{is_too_deep};
+ghost use Rattle.flag_ir.specs.Storage.{Storage};
+ghost use Rattle.unit_frames.specs.Kept.{byte_from, frames_of, takes, taken_of};
 ghost use Rattle.unit_frames.specs.Opened as opened;
-ghost use Rattle.unit_frames.specs.Opened.{from_caller, started, goes_too_deep, IsNewFrame, Opens};
+ghost use Rattle.unit_frames.specs.Opened.{from_caller, started, frame_started, goes_too_deep, IsNewFrame, IsOpener, Opens};
 
 use crate::frame::OpenFrame;
 use crate::frames::OpenFrames;
@@ -162,6 +164,15 @@ impl OpenFrames {
         height as u64 + 4194304 < esp0 as u64 + depth as u64
             || esp0 < height
             || 50331648 < taken_by(depth, args) + self.taken
+    }
+
+    /// Whether a frame of a procedure of the unit would be too deep, in a run that began with `esp0` in esp.
+    pub fn is_too_deep(&self, procs: &[Proc], start: FrameStart, esp0: u32) -> bool
+        requires { start.proc < length procs.now }
+        ensures { (u : Storage) (m : Memory) → IsOpener u (frames_of procs.now self.now) m start.ebp esp0 → result ≡ is_too_deep u.esp0 (frame_started procs.now start u) u.frames }
+    {
+        let proc = &procs[start.proc];
+        self.goes_too_deep(esp0, start.height, proc.depth, proc.args)
     }
 
     // Puts a frame before the others.
