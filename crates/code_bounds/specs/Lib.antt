@@ -1,0 +1,5 @@
+pub mod Bytes
+pub mod LengthLaws
+pub mod OperationLaws
+pub mod Operations
+pub mod Steps
