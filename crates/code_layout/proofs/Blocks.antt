@@ -1,0 +1,78 @@
+-- Blocks lie at their places, and the code begins.
+use Rattle.std.proofs.Common.{◌≡◌, ◌≢◌, ◌⊎◌, inl, inr, ◌↔◌, ℕ, ◌+◌, ◌*◌, ◌<◌, ◌≤◌, ◌==◌, ◌&&◌, ◌||◌, Bool, true, false, not, cond, leb, ltb, List, [], ◌∷◌, ◌++◌, All, find, length, nat_lt, Option, Some, None, refl, sym, ap, ap₂, ◌∙◌, subst, append_assoc, arith}
+use Rattle.std.proofs.lemmas.Bool.{eqb-true, eqb-false, lt-ltb, ltb-true, ltb-false, leb-true, leb-false}
+use Rattle.std.proofs.lemmas.List.{length-append}
+use Rattle.std.proofs.lemmas.List.Elements.{All-head, All-tail}
+use Rattle.x86_types.specs.declared.operand.Reg.TheVariants.{Esp}
+use Rattle.x86_types.specs.declared.operand.Rm.TheVariants as rm
+use Rattle.x86_types.specs.declared.operand.Src.TheVariants as src
+use Rattle.x86_types.specs.declared.width.Width.TheVariants.{Four}
+use Rattle.x86_types.specs.declared.instr.Instr.{Instr}
+use Rattle.x86_types.specs.declared.instr.Instr.TheVariants as instr
+use Rattle.x86_grammar.specs.Fields.{HasSpelling}
+use Rattle.x86_encode.specs.Choice.{best}
+use Rattle.x86_code.specs.Code.{Code}
+use Rattle.named_code.specs.Items.{Item, CodeBlock}
+use Rattle.named_code.specs.Running.{block_of_number, block_at}
+use Rattle.laid_code.specs.Laid.{Places, Stands, Leads, Lies, FoundAt, is_outside, place_of_old, IsLaid, AreLayable}
+use Rattle.laid_code.specs.Beginning.{esp_to, Begins}
+use Rattle.code_layout.specs.Texts.{stop, jump_text, items_text, blocks_text, stores_text, beginning_text, code_text}
+use Rattle.code_layout.specs.Placing.{items_size, beginning_size, numbered_from, addressed_from, PlacesFrom, HasBytesFrom, AreSpelled, LieInSpan, TextIsLaid, TextLengths}
+use Rattle.code_layout.proofs.Standing.{Given, behind, regrouped, nothing, best_stands, jmp_leads}
+use Rattle.code_layout.proofs.Texts.{items_length, items_lie}
+
+abbrev IsSpelled : CodeBlock → Type 0
+IsSpelled b = All (λ (x : Item). HasSpelling x.instr) b.items
+
+module _ (given : Given) (l : Places) (fits : (l.span < 4294967296) × (l.count < 4294967296) × (l.table < 4294967296)) (code : Code) (places_fit : (n : ℕ) → l.by_number n < 4294967296) (stop_fits : l.stop < 4294967296) where
+  -- ---- the block that a test finds first lies where it is counted
+  module _ (test : CodeBlock → Bool) where
+    abbrev place_from : ℕ → List CodeBlock → ℕ
+    place_from q [] = 0
+    place_from q (b ∷ bs) = cond (test b) q (place_from (q + items_size l b.items) bs)
+
+    found_lies : (q : ℕ) (bs : List CodeBlock) (rest : List ℕ) (b : CodeBlock) → All IsSpelled bs → HasBytesFrom code q (blocks_text l q bs ++ rest) → q + length (blocks_text l q bs) < 4294967296 → find test bs ≡ Some b → Lies l code (place_from q bs) b.items
+    unfolding blocks_text
+    found_lies q [] rest b spelled h low e = absurd (cc e)
+    found_lies q (x ∷ bs) rest b spelled h low e =
+        let t = items_text l q x.items in
+        let more = blocks_text l (q + length t) bs in
+        let whole = length-append t more in
+        let h1 = regrouped code q t more rest h in
+        let here = items_lie given l fits code places_fit stop_fits q x.items (more ++ rest) (All-head IsSpelled x bs spelled) h1 (omega (arith, whole, low)) in
+        let size : q + length t ≡ q + items_size l x.items = ap (λ n. q + n) (items_length given l q x.items) in
+        let later = found_lies (q + length t) bs rest b (All-tail IsSpelled x bs spelled) (behind code q t (more ++ rest) h1) (omega (arith, whole, low)) in
+        by (test x) refl here (λ k. subst (λ p. Lies l code (place_from p bs) b.items) size (later k))
+      where
+        some_or : Option CodeBlock → CodeBlock
+        some_or None = x
+        some_or (Some y) = y
+
+        by : (t : Bool) → test x ≡ t → Lies l code q x.items → (find test bs ≡ Some b → Lies l code (place_from (q + items_size l x.items) bs) b.items) → Lies l code (cond (test x) q (place_from (q + items_size l x.items) bs)) b.items
+        by true is here later =
+            let same : Some x ≡ Some b = ap (λ t. cond t (Some x) (find test bs)) (sym is) ∙ e in
+            subst (λ t. Lies l code (cond t q (place_from (q + items_size l x.items) bs)) b.items) (sym is) (subst (λ (y : CodeBlock). Lies l code q y.items) (ap some_or same) here)
+        by false is here later = subst (λ t. Lies l code (cond t q (place_from (q + items_size l x.items) bs)) b.items) (sym is) (later (ap (λ t. cond t (Some x) (find test bs)) (sym is) ∙ e))
+
+    none_found : (q : ℕ) (bs : List CodeBlock) → find test bs ≡ None → place_from q bs ≡ 0
+    none_found q [] e = refl
+    none_found q (x ∷ bs) e = by (test x) refl (none_found (q + items_size l x.items) bs)
+      where
+        by : (t : Bool) → test x ≡ t → (find test bs ≡ None → place_from (q + items_size l x.items) bs ≡ 0) → cond (test x) q (place_from (q + items_size l x.items) bs) ≡ 0
+        by true is later = let both : Some x ≡ None = ap (λ t. cond t (Some x) (find test bs)) (sym is) ∙ e in absurd (cc both)
+        by false is later = ap (λ t. cond t q (place_from (q + items_size l x.items) bs)) is ∙ later (ap (λ t. cond t (Some x) (find test bs)) (sym is) ∙ e)
+
+    -- each place is within the text
+    place_low : (q : ℕ) (bs : List CodeBlock) (end : ℕ) → q + length (blocks_text l q bs) ≤ end → place_from q bs ≤ end
+    unfolding blocks_text
+    place_low q [] end h = omega arith
+    place_low q (x ∷ bs) end h =
+        let t = items_text l q x.items in
+        let whole = length-append t (blocks_text l (q + length t) bs) in
+        let size : q + length t ≡ q + items_size l x.items = ap (λ n. q + n) (items_length given l q x.items) in
+        let later = place_low (q + length t) bs end (omega (arith, whole, h)) in
+        by (test x) (omega (arith, whole, h)) (subst (λ p. place_from p bs ≤ end) size later)
+      where
+        by : (t : Bool) → q ≤ end → place_from (q + items_size l x.items) bs ≤ end → cond t q (place_from (q + items_size l x.items) bs) ≤ end
+        by true here later = here
+        by false here later = later
