@@ -26,11 +26,11 @@ IsSpelled b = All (λ (x : Item). HasSpelling x.instr) b.items
 
 -- ---- the place of the first block that a test finds
 module _ (given : Given) (l : Places) (test : CodeBlock → Bool) where
-  abbrev place_from : ℕ → List CodeBlock → ℕ
+  abbrev pub place_from : ℕ → List CodeBlock → ℕ
   place_from q [] = 0
   place_from q (b ∷ bs) = cond (test b) q (place_from (q + items_size l b.items) bs)
 
-  none_found : (q : ℕ) (bs : List CodeBlock) → find test bs ≡ None → place_from q bs ≡ 0
+  pub none_found : (q : ℕ) (bs : List CodeBlock) → find test bs ≡ None → place_from q bs ≡ 0
   none_found q [] e = refl
   none_found q (x ∷ bs) e = by (test x) refl (none_found (q + items_size l x.items) bs)
     where
@@ -39,7 +39,7 @@ module _ (given : Given) (l : Places) (test : CodeBlock → Bool) where
       by false is later = ap (λ t. cond t q (place_from (q + items_size l x.items) bs)) is ∙ later (ap (λ t. cond t (Some x) (find test bs)) (sym is) ∙ e)
 
   -- each place is within the text
-  place_low : (q : ℕ) (bs : List CodeBlock) (end : ℕ) → q + length (blocks_text l q bs) ≤ end → place_from q bs ≤ end
+  pub place_low : (q : ℕ) (bs : List CodeBlock) (end : ℕ) → q + length (blocks_text l q bs) ≤ end → place_from q bs ≤ end
   unfolding blocks_text
   place_low q [] end h = omega arith
   place_low q (x ∷ bs) end h =
@@ -55,7 +55,7 @@ module _ (given : Given) (l : Places) (test : CodeBlock → Bool) where
 
 module _ (given : Given) (l : Places) (fits : (l.span < 4294967296) × (l.count < 4294967296) × (l.table < 4294967296)) (code : Code) (places_fit : (n : ℕ) → l.by_number n < 4294967296) (stop_fits : l.stop < 4294967296) where
   module _ (test : CodeBlock → Bool) where
-    found_lies : (q : ℕ) (bs : List CodeBlock) (rest : List ℕ) (b : CodeBlock) → All IsSpelled bs → HasBytesFrom code q (blocks_text l q bs ++ rest) → q + length (blocks_text l q bs) < 4294967296 → find test bs ≡ Some b → Lies l code (place_from given l test q bs) b.items
+    pub found_lies : (q : ℕ) (bs : List CodeBlock) (rest : List ℕ) (b : CodeBlock) → All IsSpelled bs → HasBytesFrom code q (blocks_text l q bs ++ rest) → q + length (blocks_text l q bs) < 4294967296 → find test bs ≡ Some b → Lies l code (place_from given l test q bs) b.items
     unfolding blocks_text
     found_lies q [] rest b spelled h low e = absurd (cc e)
     found_lies q (x ∷ bs) rest b spelled h low e =
@@ -80,18 +80,18 @@ module _ (given : Given) (l : Places) (fits : (l.span < 4294967296) × (l.count 
 
 -- ---- by number, and by old address
 module _ (given : Given) (l : Places) where
-  abbrev has_number : ℕ → CodeBlock → Bool
+  abbrev pub has_number : ℕ → CodeBlock → Bool
   has_number n b = b.number == n
 
-  abbrev has_address : ℕ → CodeBlock → Bool
+  abbrev pub has_address : ℕ → CodeBlock → Bool
   has_address a b = not (a == 0) && (b.at == a)
 
-  numbered_is : (q n : ℕ) (bs : List CodeBlock) → numbered_from l q n bs ≡ place_from given l (has_number n) q bs
+  pub numbered_is : (q n : ℕ) (bs : List CodeBlock) → numbered_from l q n bs ≡ place_from given l (has_number n) q bs
   unfolding numbered_from
   numbered_is q n [] = refl
   numbered_is q n (b ∷ bs) = ap (λ p. cond (b.number == n) q p) (numbered_is (q + items_size l b.items) n bs)
 
-  addressed_is : (q a : ℕ) (bs : List CodeBlock) → addressed_from l q a bs ≡ place_from given l (has_address a) q bs
+  pub addressed_is : (q a : ℕ) (bs : List CodeBlock) → addressed_from l q a bs ≡ place_from given l (has_address a) q bs
   unfolding addressed_from
   addressed_is q a [] = refl
   addressed_is q a (b ∷ bs) = ap (λ p. cond (not (a == 0) && (b.at == a)) q p) (addressed_is (q + items_size l b.items) a bs)
@@ -100,11 +100,11 @@ never_found : (bs : List CodeBlock) → find (λ b. false) bs ≡ None
 never_found [] = refl
 never_found (b ∷ bs) = never_found bs
 
-block_at_is : (a : ℕ) (bs : List CodeBlock) → block_at a bs ≡ find (λ b. not (a == 0) && (b.at == a)) bs
+pub block_at_is : (a : ℕ) (bs : List CodeBlock) → block_at a bs ≡ find (λ b. not (a == 0) && (b.at == a)) bs
 block_at_is a bs = elim (a == 0) as (λ z. cond z None (find (λ b. b.at == a) bs) ≡ find (λ b. not z && (b.at == a)) bs) [ true ↦ sym (never_found bs) | false ↦ refl ]
 
 -- what holds of each block holds of the one that is found, and so does the test
-found_holds : (P : CodeBlock → Type 0) (test : CodeBlock → Bool) (bs : List CodeBlock) (b : CodeBlock) → All P bs → find test bs ≡ Some b → P b × (test b ≡ true)
+pub found_holds : (P : CodeBlock → Type 0) (test : CodeBlock → Bool) (bs : List CodeBlock) (b : CodeBlock) → All P bs → find test bs ≡ Some b → P b × (test b ≡ true)
 found_holds P test [] b h e = absurd (cc e)
 found_holds P test (x ∷ bs) b h e = by (test x) refl (λ k. found_holds P test bs b (All-tail P x bs h) k)
   where

@@ -1,3 +1,4 @@
 mod Standing
 mod Texts
 mod Blocks
+mod LaidText
