@@ -1,24 +1,15 @@
 -- Blocks lie at their places, and the code begins.
-use Rattle.std.proofs.Common.{◌≡◌, ◌≢◌, ◌⊎◌, inl, inr, ◌↔◌, ℕ, ◌+◌, ◌*◌, ◌<◌, ◌≤◌, ◌==◌, ◌&&◌, ◌||◌, Bool, true, false, not, cond, leb, ltb, List, [], ◌∷◌, ◌++◌, All, find, length, nat_lt, Option, Some, None, refl, sym, ap, ap₂, ◌∙◌, subst, append_assoc, arith}
-use Rattle.std.proofs.lemmas.Bool.{eqb-true, eqb-false, lt-ltb, ltb-true, ltb-false, leb-true, leb-false}
+use Rattle.std.proofs.Common.{◌≡◌, ℕ, ◌+◌, ◌<◌, ◌≤◌, ◌==◌, ◌&&◌, Bool, true, false, not, cond, List, [], ◌∷◌, ◌++◌, All, find, length, Option, Some, None, refl, sym, ap, ◌∙◌, subst, arith}
 use Rattle.std.proofs.lemmas.List.{length-append}
 use Rattle.std.proofs.lemmas.List.Elements.{All-head, All-tail}
-use Rattle.x86_types.specs.declared.operand.Reg.TheVariants.{Esp}
-use Rattle.x86_types.specs.declared.operand.Rm.TheVariants as rm
-use Rattle.x86_types.specs.declared.operand.Src.TheVariants as src
-use Rattle.x86_types.specs.declared.width.Width.TheVariants.{Four}
-use Rattle.x86_types.specs.declared.instr.Instr.{Instr}
-use Rattle.x86_types.specs.declared.instr.Instr.TheVariants as instr
 use Rattle.x86_grammar.specs.Fields.{HasSpelling}
-use Rattle.x86_encode.specs.Choice.{best}
 use Rattle.x86_code.specs.Code.{Code}
 use Rattle.named_code.specs.Items.{Item, CodeBlock}
-use Rattle.named_code.specs.Running.{block_of_number, block_at}
-use Rattle.laid_code.specs.Laid.{Places, Stands, Leads, Lies, FoundAt, is_outside, place_of_old, IsLaid, AreLayable}
-use Rattle.laid_code.specs.Beginning.{esp_to, Begins}
-use Rattle.code_layout.specs.Texts.{stop, jump_text, items_text, blocks_text, stores_text, beginning_text, code_text}
-use Rattle.code_layout.specs.Placing.{items_size, beginning_size, numbered_from, addressed_from, PlacesFrom, HasBytesFrom, AreSpelled, LieInSpan, TextIsLaid, TextLengths}
-use Rattle.code_layout.proofs.Standing.{Given, behind, regrouped, nothing, best_stands, jmp_leads}
+use Rattle.named_code.specs.Running.{block_at}
+use Rattle.laid_code.specs.Laid.{Places, Lies}
+use Rattle.code_layout.specs.Texts.{items_text, blocks_text}
+use Rattle.code_layout.specs.Placing.{items_size, numbered_from, addressed_from, HasBytesFrom}
+use Rattle.code_layout.proofs.Standing.{Given, behind, regrouped}
 use Rattle.code_layout.proofs.Texts.{items_length, items_lie}
 
 abbrev IsSpelled : CodeBlock → Type 0

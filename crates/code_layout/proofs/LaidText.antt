@@ -1,22 +1,21 @@
 -- The bytes of laid code are laid code.
-use Rattle.std.proofs.Common.{◌≡◌, ◌≢◌, ◌⊎◌, inl, inr, ◌↔◌, ℕ, ◌+◌, ◌*◌, ◌<◌, ◌≤◌, ◌==◌, ◌&&◌, ◌||◌, Bool, true, false, not, cond, leb, ltb, List, [], ◌∷◌, ◌++◌, All, find, length, nat_lt, Option, Some, None, refl, sym, ap, ap₂, ◌∙◌, subst, append_assoc, arith}
+use Rattle.std.proofs.Common.{◌≡◌, ℕ, ◌+◌, ◌*◌, ◌<◌, ◌≤◌, ◌==◌, ◌||◌, Bool, true, false, not, cond, List, ◌++◌, find, length, Option, Some, None, refl, sym, ap, ap₂, ◌∙◌, subst, arith}
 use Rattle.std.proofs.lemmas.Bool.{and_parts, eqb-true, lt-ltb, le-ltb, lt-leb}
 use Rattle.std.proofs.lemmas.List.{length-append}
 use Rattle.x86_types.specs.declared.operand.Reg.TheVariants.{Esp}
 use Rattle.x86_types.specs.declared.operand.Rm.TheVariants as rm
 use Rattle.x86_types.specs.declared.operand.Src.TheVariants as src
 use Rattle.x86_types.specs.declared.width.Width.TheVariants.{Four}
-use Rattle.x86_types.specs.declared.instr.Instr.{Instr}
 use Rattle.x86_types.specs.declared.instr.Instr.TheVariants as instr
 use Rattle.x86_grammar.specs.Fields.{HasSpelling}
 use Rattle.x86_encode.specs.Choice.{best}
 use Rattle.x86_code.specs.Code.{Code}
-use Rattle.named_code.specs.Items.{Item, CodeBlock}
+use Rattle.named_code.specs.Items.{CodeBlock}
 use Rattle.named_code.specs.Running.{block_of_number, block_at}
-use Rattle.laid_code.specs.Laid.{Places, Stands, Leads, Lies, FoundAt, is_outside, place_of_old, IsLaid, AreLayable}
+use Rattle.laid_code.specs.Laid.{Places, Leads, Lies, FoundAt, is_outside, place_of_old, IsLaid}
 use Rattle.laid_code.specs.Beginning.{esp_to, Begins}
 use Rattle.code_layout.specs.Texts.{stop, jump_text, blocks_text, stores_text, beginning_text, code_text}
-use Rattle.code_layout.specs.Placing.{beginning_size, numbered_from, addressed_from, PlacesFrom, HasBytesFrom, AreSpelled, LieInSpan, TextIsLaid, TextLengths}
+use Rattle.code_layout.specs.Placing.{beginning_size, PlacesFrom, HasBytesFrom, AreSpelled, LieInSpan, TextIsLaid, TextLengths}
 use Rattle.code_layout.proofs.Standing.{Given, behind, regrouped, nothing, best_stands, jmp_leads}
 use Rattle.code_layout.proofs.Texts.{items_length}
 use Rattle.code_layout.proofs.Blocks.{place_from, none_found, place_low, found_lies, has_number, has_address, numbered_is, addressed_is, block_at_is, found_holds}
@@ -183,18 +182,21 @@ module _ (given : Given) (l : Places) (code : Code) (q cell entry : ℕ) (blocks
       }
 
   pub laid : IsLaid l code blocks × Begins l code q cell entry
-  laid = (record {
-    numbers = number_lies;
-    addresses = λ a from below. address_found a;
-    outside = outside_none;
-    addresses_fit = address_fits;
-    stops = stop_there;
-    span_fits = span_fits;
-    table_fits = table_fits;
-  }, begins)
+  laid = (
+    record {
+      numbers = number_lies;
+      addresses = λ a from below. address_found a;
+      outside = outside_none;
+      addresses_fit = address_fits;
+      stops = stop_there;
+      span_fits = span_fits;
+      table_fits = table_fits;
+    },
+    begins,
+  )
 
 pub text_is_laid : Given → TextIsLaid
-text_is_laid given l code q cell entry blocks after h places spelled span layable low span_fits table_fits cell_fits zero = laid given l code q cell entry blocks after h places spelled span low span_fits table_fits cell_fits zero
+text_is_laid given l code q cell entry blocks after h places spelled span low span_fits table_fits cell_fits zero = laid given l code q cell entry blocks after h places spelled span low span_fits table_fits cell_fits zero
 
 pub text_lengths : Given → TextLengths
-text_lengths given = record { items = λ l q xs spelled. items_length given l q xs }
+text_lengths given = record { items = items_length given }

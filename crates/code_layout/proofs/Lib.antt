@@ -1,4 +1,4 @@
-mod Standing
+pub mod Standing
 mod Texts
 mod Blocks
-mod LaidText
+pub mod LaidText

@@ -1,9 +1,8 @@
 -- The texts of instructions: how long they are, and what stands where they do.
-use Rattle.std.proofs.Common.{◌≡◌, ◌↔◌, ℕ, ◌+◌, ◌<◌, ◌≤◌, ◌&&◌, Bool, true, List, [], ◌∷◌, ◌++◌, All, length, nat_lt, Option, Some, None, refl, sym, ap, ap₂, ◌∙◌, subst, append_assoc, arith}
-use Rattle.std.proofs.lemmas.Bool.{and_parts, lt-ltb}
+use Rattle.std.proofs.Common.{◌≡◌, ℕ, ◌+◌, ◌<◌, true, List, [], ◌∷◌, ◌++◌, All, length, nat_lt, refl, sym, subst, arith}
+use Rattle.std.proofs.lemmas.Bool.{lt-ltb}
 use Rattle.std.proofs.lemmas.List.{length-append}
 use Rattle.std.proofs.lemmas.List.Elements.{All-head, All-tail}
-use Rattle.x86_types.specs.declared.operand.Reg.{Reg}
 use Rattle.x86_types.specs.declared.operand.Rm.{Rm}
 use Rattle.x86_types.specs.declared.operand.Rm.TheVariants as rm
 use Rattle.x86_types.specs.declared.operand.Src.TheVariants as src
@@ -12,12 +11,12 @@ use Rattle.x86_types.specs.declared.operation.Cond.TheVariants as condition
 use Rattle.x86_types.specs.declared.width.Width.TheVariants.{Four}
 use Rattle.x86_types.specs.declared.instr.Instr.{Instr}
 use Rattle.x86_types.specs.declared.instr.Instr.TheVariants as instr
-use Rattle.x86_grammar.specs.Fields.{rm_fits, fields_fit, HasSpelling}
+use Rattle.x86_grammar.specs.Fields.{HasSpelling}
 use Rattle.x86_encode.specs.Choice.{best}
 use Rattle.x86_code.specs.Code.{Code}
-use Rattle.named_code.specs.Items.{Item, CodeBlock}
+use Rattle.named_code.specs.Items.{Item}
 use Rattle.laid_code.specs.Laid.{Places, Stands, Leads, eax, as_source, table_word, JumpsByTable, InstrStands, Lies}
-use Rattle.code_layout.specs.Texts.{stop, jump_text, before_test, behind_test, table_text, instr_text, items_text}
+use Rattle.code_layout.specs.Texts.{jump_text, before_test, behind_test, table_text, instr_text, items_text}
 use Rattle.code_layout.specs.Placing.{instr_size, items_size, HasBytesFrom}
 use Rattle.code_layout.proofs.Standing.{Given, behind, regrouped, nothing, best_stands, jmp_leads, jcc_leads}
 
@@ -205,6 +204,8 @@ module _ (given : Given) where
           let t = instr_text l q x.instr in
           let more = items_text l (q + length t) xs in
           let whole = length-append t more in
-          let h1 = regrouped code q t more rest h in
-          (q + length t, instr_stands q x.instr (more ++ rest) (All-head (λ (y : Item). HasSpelling y.instr) x xs spelled) h1 (omega (arith, whole, low)),
-          items_lie (q + length t) xs rest (All-tail (λ (y : Item). HasSpelling y.instr) x xs spelled) (behind code q t (more ++ rest) h1) (omega (arith, whole, low)))
+          let h1 = regrouped code q t more rest h in (
+            q + length t,
+            instr_stands q x.instr (more ++ rest) (All-head (λ (y : Item). HasSpelling y.instr) x xs spelled) h1 (omega (arith, whole, low)),
+            items_lie (q + length t) xs rest (All-tail (λ (y : Item). HasSpelling y.instr) x xs spelled) (behind code q t (more ++ rest) h1) (omega (arith, whole, low)),
+          )

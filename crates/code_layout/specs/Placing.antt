@@ -1,6 +1,6 @@
 -- Where the blocks stand: one behind the other, from a place on, by their sizes. The size of an instruction doesn't hang on where it or its
 -- target stands. All of this is own.
-use Rattle.std.specs.Prelude.{◌≡◌, ℕ, ◌+◌, ◌-◌, ◌*◌, ◌<◌, ◌≤◌, ◌==◌, ◌&&◌, not, cond, List, [], ◌∷◌, ◌++◌, length, drop, All, None}
+use Rattle.std.specs.Prelude.{◌≡◌, ℕ, ◌+◌, ◌*◌, ◌<◌, ◌≤◌, ◌==◌, ◌&&◌, not, cond, List, [], ◌∷◌, ◌++◌, length, drop, All, None}
 use Rattle.x86_types.specs.declared.instr.Instr.{Instr}
 use Rattle.x86_types.specs.declared.instr.Instr.TheVariants as instr
 use Rattle.x86_grammar.specs.Fields.{HasSpelling}
@@ -8,7 +8,7 @@ use Rattle.x86_grammar.specs.Front.{front}
 use Rattle.x86_encode.specs.Choice.{best}
 use Rattle.x86_code.specs.Code.{Code}
 use Rattle.named_code.specs.Items.{Item, CodeBlock}
-use Rattle.laid_code.specs.Laid.{Places, AreLayable, IsLaid}
+use Rattle.laid_code.specs.Laid.{Places, IsLaid}
 use Rattle.laid_code.specs.Beginning.{Begins}
 use Rattle.code_layout.specs.Texts.{before_test, behind_test, items_text, stores_text, code_text}
 
@@ -57,10 +57,10 @@ LieInSpan l blocks = All (λ (b : CodeBlock). (b.at ≡ 0 → ⊥) → (l.span �
 -- ---- where the bytes of laid code stand, whatever stands behind them, the code is laid, and begins
 abbrev pub TextIsLaid : Type 0
 TextIsLaid = (l : Places) (code : Code) (q cell entry : ℕ) (blocks : List CodeBlock) (after : List ℕ) →
-    HasBytesFrom code q (code_text l q cell entry blocks ++ after) → PlacesFrom l q cell blocks → AreSpelled blocks → LieInSpan l blocks → AreLayable blocks →
+    HasBytesFrom code q (code_text l q cell entry blocks ++ after) → PlacesFrom l q cell blocks → AreSpelled blocks → LieInSpan l blocks →
     q + length (code_text l q cell entry blocks) < 4294967296 → l.span + l.count < 4294967296 → l.table + 4 * l.count < 4294967296 → cell < 4294967296 → code 0 ≡ None →
     IsLaid l code blocks × Begins l code q cell entry
 
 -- sizes are the lengths of texts
 pub record TextLengths : Type 0 where
-  pub items : (l : Places) (q : ℕ) (xs : List Item) → All (λ (x : Item). HasSpelling x.instr) xs → length (items_text l q xs) ≡ items_size l xs
+  pub items : (l : Places) (q : ℕ) (xs : List Item) → length (items_text l q xs) ≡ items_size l xs

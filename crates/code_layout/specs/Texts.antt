@@ -1,6 +1,6 @@
 -- The bytes of laid code: the best spelling of each instruction, jumps with displacements of four bytes, and 0F 0B behind each block. All of
 -- this is own.
-use Rattle.std.specs.Prelude.{ℕ, ◌+◌, ◌-◌, ◌%◌, ◌==◌, ◌&&◌, not, cond, List, [], ◌∷◌, ◌++◌, length}
+use Rattle.std.specs.Prelude.{ℕ, ◌+◌, ◌-◌, ◌%◌, List, [], ◌∷◌, ◌++◌, length}
 use Rattle.x86_types.specs.declared.operand.Reg.TheVariants.{Esp}
 use Rattle.x86_types.specs.declared.operand.Rm.{Rm}
 use Rattle.x86_types.specs.declared.operand.Rm.TheVariants as rm

@@ -1,2 +1,6 @@
 //! Laid code as bytes.
 #![tactic(auto)]
+
+mod laws;
+
+pub use laws::layout_laws;

@@ -1,0 +1,17 @@
+// The laws of the bytes of laid code.
+ghost use Rattle.code_layout.specs.Placing.{TextIsLaid, TextLengths};
+
+use x86_encode::{best_laws, best_lengths};
+use x86_grammar::{front_laws, spelled_fields_fit};
+
+/// Where the bytes of laid code stand, whatever stands behind them, the code is laid and begins there; and how long the texts of items
+/// are, wherever they stand.
+pub fn layout_laws()
+    ensures laid { TextIsLaid }
+    ensures lengths { TextLengths }
+{
+    best_laws();
+    best_lengths();
+    front_laws();
+    spelled_fields_fit();
+}
