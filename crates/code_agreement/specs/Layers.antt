@@ -20,7 +20,7 @@ use Rattle.name_cells.specs.PlacesCode.{HasShortTurns, PlacesCode}
 use Rattle.instr_choose.specs.Marks.{marks_of}
 use Rattle.instr_choose.specs.Choosing.{Chooses}
 use Rattle.laid_code.specs.Laid.{Places, IsLaid, AreLayable}
-use Rattle.laid_code.specs.LaidRun.{HasTable, laid_steps}
+use Rattle.laid_code.specs.LaidRun.{HasAddressTable, laid_steps}
 use Rattle.laid_code.specs.Beginning.{Begins, CanBegin}
 
 -- ---- what becomes what, from the program to the memory with which the new code begins, without the stack
@@ -48,7 +48,7 @@ pub record AreLayers (x : Layers) : Type 0 where
   pub places_code : PlacesCode x.code x.placed
   pub layable : AreLayable (placed_blocks x.placed)
   pub laid : IsLaid x.places x.new (placed_blocks x.placed)
-  pub table : HasTable x.places x.memory
+  pub table : HasAddressTable x.places x.memory
   pub begins : Begins x.places x.new x.entry x.cell x.image.entry
   pub can_begin : (esp0 : ℕ) → CanBegin x.placed.homes x.cell esp0 (with_private esp0 (memory_of x.image)) x.memory
   pub rest : ℕ → ℕ

@@ -25,7 +25,7 @@ use Rattle.named_code.specs.Items.{Item, CodeBlock, own_item}
 use Rattle.named_code.specs.Running.{CodeState, AtOld, Inside, CodePosition, standing_at, onward, performed, lost, act}
 use Rattle.named_code.specs.Weight.{Next, IsWayOf}
 use Rattle.laid_code.specs.Laid.{Places, JumpsByTable, place_of_old, IsLaid}
-use Rattle.laid_code.specs.LaidRun.{AreStatesBeside, HasTable}
+use Rattle.laid_code.specs.LaidRun.{AreStatesBeside, HasAddressTable}
 use Rattle.laid_code.proofs.Given.{Given}
 use Rattle.laid_code.proofs.Acting.{alone, EndAlike, GoAlike, both_moves}
 use Rattle.laid_code.proofs.Stepping.{less_move, goes_beside, ends_as}
@@ -40,7 +40,7 @@ module _ (given : Given) (l : Places) (code : Code) (blocks : List CodeBlock) (f
   simulated_within (Go ls p) t k some h = record { steps = h.steps; few = let f = h.few in omega (arith, some, f); trace = h.trace; state = h.state; fits = h.fits; goes = h.goes; related = h.related }
   simulated_within (Halt ls e) t k some h = (record { steps = h.0.steps; few = let f = h.0.few in omega (arith, some, f); fits = h.0.fits }, h.1)
 
-  module _ (laid : IsLaid l code blocks) (table : HasTable l first) (to : Rm) (rest : List Item) (s : CodeState) (t : State) (states : AreStatesBeside first s t) (r : ℕ) (stands : JumpsByTable l code t.eip to r)
+  module _ (laid : IsLaid l code blocks) (table : HasAddressTable l first) (to : Rm) (rest : List Item) (s : CodeState) (t : State) (states : AreStatesBeside first s t) (r : ℕ) (stands : JumpsByTable l code t.eip to r)
       (no_esp : All (λ f. f.register ≢ Esp) (fields (instr.JmpTo to))) (clear : All (λ a. is_clear_access s.memory a ≡ true) (accesses machine_naming (instr.JmpTo to) s.cpu.regs)) where
     abbrev Met : Move CodePosition → Type 0
     Met m = Simulated given l code blocks first 6 m t

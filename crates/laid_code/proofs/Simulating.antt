@@ -24,7 +24,7 @@ use Rattle.named_code.specs.TestedRun.{call_buffer, item_accesses, first_accesse
 use Rattle.named_code.specs.Form.{IsStackless, NamesBlock}
 use Rattle.named_code.specs.Weight.{Next, Again, course_of, first_cost, entry_cost, cost_at, step_cost}
 use Rattle.laid_code.specs.Laid.{Places, Stands, InstrStands, Lies, FoundAt, is_outside, place_of_old, IsLaid, IsLayable, AreLayable}
-use Rattle.laid_code.specs.LaidRun.{AreStatesBeside, StandsAt, IsBeside, HasTable, instr_steps, laid_steps}
+use Rattle.laid_code.specs.LaidRun.{AreStatesBeside, StandsAt, IsBeside, HasAddressTable, instr_steps, laid_steps}
 use Rattle.laid_code.proofs.Given.{Given}
 use Rattle.laid_code.proofs.Finding.{found_number, found_at, is_found, all_front}
 use Rattle.laid_code.proofs.Moving.{Simulated, awake}
@@ -32,7 +32,7 @@ use Rattle.laid_code.proofs.PlainItems.{plain_met, jmp_met, jcc_met}
 use Rattle.laid_code.proofs.CallItems.{call_met}
 use Rattle.laid_code.proofs.OldJumps.{jump_met}
 
-module _ (given : Given) (l : Places) (code : Code) (blocks : List CodeBlock) (first : Memory) (laid : IsLaid l code blocks) (table : HasTable l first) where
+module _ (given : Given) (l : Places) (code : Code) (blocks : List CodeBlock) (first : Memory) (laid : IsLaid l code blocks) (table : HasAddressTable l first) where
   abbrev numbers : List ℕ
   numbers = map (λ (b : CodeBlock). b.number) blocks
 

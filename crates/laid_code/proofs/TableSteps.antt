@@ -27,7 +27,7 @@ use Rattle.x86_meaning.specs.Step.{State, settled_by, settled, at_address, finis
 use Rattle.private_memory.specs.PrivateArea.{is_unreserved}
 use Rattle.named_code.specs.Running.{CodeState, lost}
 use Rattle.laid_code.specs.Laid.{Places, Stands, Leads, eax, table_word}
-use Rattle.laid_code.specs.LaidRun.{with_reserved, AreMemoriesBeside, AreStatesBeside, HasTable}
+use Rattle.laid_code.specs.LaidRun.{with_reserved, AreMemoriesBeside, AreStatesBeside, HasAddressTable}
 use Rattle.laid_code.proofs.Given.{Given}
 use Rattle.laid_code.proofs.Memories.{reserved, nothing_forgotten}
 
@@ -190,7 +190,7 @@ module _ (given : Given) (first : Memory) (code : Code) (s : CodeState) where
       record { state = record w { memory = forget_below 0 w.memory }; goes = on.0; holds = record { states = on.1; eax = h.eax; eip = subst (λ n. wrapped (n + leads.by) ≡ to) here leads.leads } }
 
   -- ---- the word of the table
-  module _ (l : Places) (table : HasTable l first) (fits : l.table + 4 * l.count < 4294967296) where
+  module _ (l : Places) (table : HasAddressTable l first) (fits : l.table + 4 * l.count < 4294967296) where
     at_word : (k : ℕ) → k < l.count → table_at l k ≡ l.table + 4 * k
     at_word k low = omega (arith, fits, low)
 

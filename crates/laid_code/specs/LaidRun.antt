@@ -61,7 +61,7 @@ pub record BesidePair (x : LaidCode) : Type 0 where
   pub beside : IsBeside x.places x.code x.blocks x.first position state
 
 -- the table lies at reserved addresses, and can be read
-pub record HasTable (l : Places) (first : Memory) : Type 0 where
+pub record HasAddressTable (l : Places) (first : Memory) : Type 0 where
   pub words : (k : ℕ) → k < l.count → bytes_at first (l.table + 4 * k) 4 ≡ word_list (word_of (l.by_address (l.span + k)))
   pub readable : (k : ℕ) → k < l.count → allows_all Load first (l.table + 4 * k) 4 ≡ true
   pub reserved : (a : ℕ) → l.table ≤ a → a < l.table + 4 * l.count → is_unreserved a ≡ false
@@ -76,6 +76,6 @@ laid_steps x = instr_steps x.instr
 
 pub record LaidLaws : Type 0 where
   -- the processor does what the code does, whose accesses are clear, in so many steps
-  pub follows : (marks : Marks) (blocks : List CodeBlock) (l : Places) (code : Code) (first : Memory) → AreLayable blocks → IsLaid l code blocks → HasTable l first →
+  pub follows : (marks : Marks) (blocks : List CodeBlock) (l : Places) (code : Code) (first : Memory) → AreLayable blocks → IsLaid l code blocks → HasAddressTable l first →
       (p : CodePosition) (t : State) → IsBeside l code blocks first p t
       → Covers (Costs (clock_of (tested_next is_clear_access marks blocks) (step_cost laid_steps blocks) p) 0) (run (tested_next is_clear_access marks blocks) p) (run (next code) t)
