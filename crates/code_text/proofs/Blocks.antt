@@ -7,10 +7,10 @@ use Rattle.x86_code.specs.Code.{Code}
 use Rattle.named_code.specs.Items.{Item, CodeBlock}
 use Rattle.named_code.specs.Running.{block_at}
 use Rattle.laid_code.specs.Laid.{Places, Lies}
-use Rattle.code_layout.specs.Texts.{items_text, blocks_text}
-use Rattle.code_layout.specs.Placing.{items_size, numbered_from, addressed_from, HasBytesFrom}
-use Rattle.code_layout.proofs.Standing.{Given, behind, regrouped}
-use Rattle.code_layout.proofs.Texts.{items_length, items_lie}
+use Rattle.code_text.specs.Texts.{items_text, blocks_text}
+use Rattle.code_text.specs.Placing.{items_size, numbered_from, addressed_from, HasBytesFrom}
+use Rattle.code_text.proofs.Standing.{Given, behind, regrouped}
+use Rattle.code_text.proofs.Texts.{items_length, items_lie}
 
 abbrev IsSpelled : CodeBlock → Type 0
 IsSpelled b = All (λ (x : Item). HasSpelling x.instr) b.items

@@ -14,8 +14,8 @@ use Rattle.x86_encode.specs.Choice.{best, best_wide}
 use Rattle.x86_encode.specs.Laws.{BestLaws, BestLengths}
 use Rattle.x86_code.specs.Code.{Code}
 use Rattle.laid_code.specs.Laid.{Stands, Leads}
-use Rattle.code_layout.specs.Texts.{stop, distance, jump_text}
-use Rattle.code_layout.specs.Placing.{HasBytesFrom}
+use Rattle.code_text.specs.Texts.{stop, distance, jump_text}
+use Rattle.code_text.specs.Placing.{HasBytesFrom}
 
 pub record Given : Type 0 where
   pub best_is : BestLaws

@@ -1,16 +1,17 @@
 -- Where the blocks stand: one behind the other, from a place on, by their sizes. The size of an instruction doesn't hang on where it or its
 -- target stands. All of this is own.
 use Rattle.std.specs.Prelude.{◌≡◌, ℕ, ◌+◌, ◌*◌, ◌<◌, ◌≤◌, ◌==◌, ◌&&◌, not, cond, List, [], ◌∷◌, ◌++◌, length, drop, All, None}
+use Rattle.std.specs.List.{sum_by}
 use Rattle.x86_types.specs.declared.instr.Instr.{Instr}
 use Rattle.x86_types.specs.declared.instr.Instr.TheVariants as instr
 use Rattle.x86_grammar.specs.Fields.{HasSpelling}
 use Rattle.x86_grammar.specs.Front.{front}
-use Rattle.x86_encode.specs.Choice.{best}
+use Rattle.x86_encode.specs.Choice.{best, best_wide}
 use Rattle.x86_code.specs.Code.{Code}
 use Rattle.named_code.specs.Items.{Item, CodeBlock}
 use Rattle.laid_code.specs.Laid.{Places, IsLaid}
 use Rattle.laid_code.specs.Beginning.{Begins}
-use Rattle.code_layout.specs.Texts.{before_test, behind_test, items_text, stores_text, code_text}
+use Rattle.code_text.specs.Texts.{before_test, behind_test, items_text, stores_text, code_text}
 
 -- ---- sizes
 unfoldable pub instr_size : Places → Instr → ℕ
@@ -42,6 +43,17 @@ pub record PlacesFrom (l : Places) (q cell : ℕ) (blocks : List CodeBlock) : Ty
   pub by_address : (a : ℕ) → l.by_address a ≡ addressed_from l (q + beginning_size cell) a blocks
   pub stop : l.stop ≡ q + length (stores_text cell) + 5
 
+-- ---- how many bytes the blocks have at most, whatever their places are: a jump to an old address has 128, and a stop has two
+abbrev pub most_bytes : Instr → ℕ
+most_bytes (instr.JmpTo to) = 128
+most_bytes i = length (best_wide i)
+
+abbrev pub items_most : List Item → ℕ
+items_most items = sum_by (λ x. most_bytes x.instr) items + 2
+
+unfoldable pub blocks_most : List CodeBlock → ℕ
+blocks_most blocks = sum_by (λ b. items_most b.items) blocks
+
 -- ---- bytes that can be run from a place on
 pub record HasBytesFrom (code : Code) (q : ℕ) (bytes : List ℕ) : Type 0 where
   pub fronts : (n : ℕ) → n ≤ length bytes → code (q + n) ≡ front (drop n bytes)
@@ -51,8 +63,11 @@ abbrev pub AreSpelled : List CodeBlock → Type 0
 AreSpelled blocks = All (λ (b : CodeBlock). All (λ (x : Item). HasSpelling x.instr) b.items) blocks
 
 -- old addresses with a block lie in the span
+abbrev pub AreInSpan : ℕ → ℕ → List CodeBlock → Type 0
+AreInSpan span count blocks = All (λ (b : CodeBlock). (b.at ≡ 0 → ⊥) → (span ≤ b.at) × (b.at < span + count)) blocks
+
 abbrev pub LieInSpan : Places → List CodeBlock → Type 0
-LieInSpan l blocks = All (λ (b : CodeBlock). (b.at ≡ 0 → ⊥) → (l.span ≤ b.at) × (b.at < l.span + l.count)) blocks
+LieInSpan l blocks = AreInSpan l.span l.count blocks
 
 -- ---- where the bytes of laid code stand, whatever stands behind them, the code is laid, and begins
 abbrev pub TextIsLaid : Type 0

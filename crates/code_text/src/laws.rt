@@ -1,5 +1,6 @@
 // The laws of the bytes of laid code.
-ghost use Rattle.code_layout.specs.Placing.{TextIsLaid, TextLengths};
+ghost use Rattle.code_text.specs.KeptPlaces.{FormIsSpelled};
+ghost use Rattle.code_text.specs.Placing.{TextIsLaid, TextLengths};
 
 use x86_encode::{best_laws, best_lengths};
 use x86_grammar::{front_laws, spelled_fields_fit};
@@ -13,5 +14,12 @@ pub fn layout_laws()
     best_laws();
     best_lengths();
     front_laws();
+    spelled_fields_fit();
+}
+
+/// Its clause says that placed code in form has spellings.
+pub fn form_laws()
+    ensures { FormIsSpelled }
+{
     spelled_fields_fit();
 }

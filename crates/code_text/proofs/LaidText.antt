@@ -14,11 +14,11 @@ use Rattle.named_code.specs.Items.{CodeBlock}
 use Rattle.named_code.specs.Running.{block_of_number, block_at}
 use Rattle.laid_code.specs.Laid.{Places, Leads, Lies, FoundAt, is_outside, place_of_old, IsLaid}
 use Rattle.laid_code.specs.Beginning.{esp_to, Begins}
-use Rattle.code_layout.specs.Texts.{stop, jump_text, blocks_text, stores_text, beginning_text, code_text}
-use Rattle.code_layout.specs.Placing.{beginning_size, PlacesFrom, HasBytesFrom, AreSpelled, LieInSpan, TextIsLaid, TextLengths}
-use Rattle.code_layout.proofs.Standing.{Given, behind, regrouped, nothing, best_stands, jmp_leads}
-use Rattle.code_layout.proofs.Texts.{items_length}
-use Rattle.code_layout.proofs.Blocks.{place_from, none_found, place_low, found_lies, has_number, has_address, numbered_is, addressed_is, block_at_is, found_holds}
+use Rattle.code_text.specs.Texts.{stop, jump_text, blocks_text, stores_text, beginning_text, code_text}
+use Rattle.code_text.specs.Placing.{beginning_size, PlacesFrom, HasBytesFrom, AreSpelled, LieInSpan, TextIsLaid, TextLengths}
+use Rattle.code_text.proofs.Standing.{Given, behind, regrouped, nothing, best_stands, jmp_leads}
+use Rattle.code_text.proofs.Texts.{items_length}
+use Rattle.code_text.proofs.Blocks.{place_from, none_found, place_low, found_lies, has_number, has_address, numbered_is, addressed_is, block_at_is, found_holds}
 
 module _ (given : Given) (l : Places) (code : Code) (q cell entry : ℕ) (blocks : List CodeBlock) (after : List ℕ) (h : HasBytesFrom code q (code_text l q cell entry blocks ++ after)) (places : PlacesFrom l q cell blocks) (spelled : AreSpelled blocks) (span : LieInSpan l blocks)
     (low : q + length (code_text l q cell entry blocks) < 4294967296) (span_fits : l.span + l.count < 4294967296) (table_fits : l.table + 4 * l.count < 4294967296) (cell_fits : cell < 4294967296) (zero : code 0 ≡ None) where

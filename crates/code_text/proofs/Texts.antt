@@ -16,9 +16,9 @@ use Rattle.x86_encode.specs.Choice.{best}
 use Rattle.x86_code.specs.Code.{Code}
 use Rattle.named_code.specs.Items.{Item}
 use Rattle.laid_code.specs.Laid.{Places, Stands, Leads, eax, as_source, table_word, JumpsByTable, InstrStands, Lies}
-use Rattle.code_layout.specs.Texts.{jump_text, before_test, behind_test, table_text, instr_text, items_text}
-use Rattle.code_layout.specs.Placing.{instr_size, items_size, HasBytesFrom}
-use Rattle.code_layout.proofs.Standing.{Given, behind, regrouped, nothing, best_stands, jmp_leads, jcc_leads}
+use Rattle.code_text.specs.Texts.{jump_text, before_test, behind_test, table_text, instr_text, items_text}
+use Rattle.code_text.specs.Placing.{instr_size, items_size, HasBytesFrom}
+use Rattle.code_text.proofs.Standing.{Given, behind, regrouped, nothing, best_stands, jmp_leads, jcc_leads}
 
 module _ (given : Given) where
   -- ---- lengths

@@ -1,0 +1,44 @@
+-- How the places of blocks are kept: a map of numbers, and a word for each old address of the span. All of this is own.
+use Rattle.std.specs.Prelude.{◌≡◌, ℕ, ◌+◌, ◌-◌, ◌<◌, ◌||◌, cond, leb, ltb, List, length, slice_index}
+use Rattle.std.specs.Option.{unwrap_or}
+use Rattle.std.specs.Ordering.{nat_cmp}
+use Rattle.std.specs.BTreeMap.{get}
+use Rattle.named_code.specs.declared.placed.Placed.{Placed}
+use Rattle.named_code.specs.Items.{CodeBlock, placed_blocks}
+use Rattle.named_code.specs.PlacedForm.{IsPlacedInForm}
+use Rattle.laid_code.specs.Laid.{Places}
+use Rattle.code_text.specs.declared.places.CodePlaces.{CodePlaces}
+use Rattle.code_text.specs.Placing.{PlacesFrom, AreSpelled}
+
+-- where new code begins, and where the address table does
+abbrev pub code_start : ℕ
+code_start = 0x60000000
+
+abbrev pub table_start : ℕ
+table_start = 0x74000000
+
+abbrev pub places_in : CodePlaces → Places
+places_in p = record {
+  by_number = λ n. unwrap_or (get nat_cmp p.numbers n) 0;
+  by_address = λ a. cond (ltb a p.span || leb (p.span + length p.words.items) a) 0 (slice_index p.words.items (a - p.span));
+  stop = p.stop;
+  table = table_start;
+  span = p.span;
+  count = length p.words.items;
+}
+
+-- the places of blocks that stand from the beginning of new code on, where old addresses lie in a span
+pub record ArePlacesOf (blocks : List CodeBlock) (cell span count : ℕ) (l : Places) : Type 0 where
+  pub places : PlacesFrom l code_start cell blocks
+  pub span : l.span ≡ span
+  pub count : l.count ≡ count
+  pub table : l.table ≡ table_start
+
+-- the words of the address table
+pub record AreTableWords (l : Places) (words : List ℕ) : Type 0 where
+  pub all : length words ≡ l.count
+  pub words : (k : ℕ) → k < l.count → slice_index words k ≡ l.by_address (l.span + k)
+
+-- placed code in form has spellings
+abbrev pub FormIsSpelled : Type 0
+FormIsSpelled = (p : Placed) → IsPlacedInForm p → AreSpelled (placed_blocks p)

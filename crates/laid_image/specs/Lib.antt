@@ -1,0 +1,2 @@
+pub mod NewImage
+pub mod ImageLaws

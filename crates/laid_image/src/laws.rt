@@ -1,0 +1,16 @@
+// The laws of the image of a written file.
+ghost use Rattle.laid_image.specs.ImageLaws.{ImageLaws};
+
+use byte_lists::little_endian_laws;
+use memory::memory_laws;
+use x86_code::code_laws;
+
+/// Its clause is the laws of the image of a written file: it can be written, the code and the table stand where they should, and its memory is
+/// that with which laid code begins.
+pub fn image_laws()
+    ensures { ImageLaws }
+{
+    little_endian_laws();
+    memory_laws();
+    code_laws();
+}
