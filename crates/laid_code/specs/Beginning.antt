@@ -48,7 +48,7 @@ is_off_stack (Some k) = not k.1
 -- reserved addresses can be read and written by the code; elsewhere its memory, with each name in its cell, is less specified than the
 -- processor's with both words. The cells can be written, and the stack is nowhere
 pub record CanBegin (homes : List Home) (cell esp0 : ℕ) (m n : Memory) : Type 0 where
-  pub from : 0x75000004 ≤ cell
+  pub from : 0x75000000 ≤ cell
   pub to : cell + 4 ≤ 0x75800000
   pub free : (a : ℕ) → is_unreserved a ≡ false → kind_of (m a) ≡ Some (true, false)
   pub beside : (a : ℕ) → is_unreserved a ≡ true → PlaceLessSpecified (with_cells esp0 homes m a) (with_esp cell esp0 n a)
