@@ -14,14 +14,14 @@ use Rattle.traces.specs.SimulationLaws.{SimulationLaws}
 use Rattle.traces.specs.BoundLaws.{BoundLaws}
 use Rattle.traces.specs.CompositionLaws.{CompositionLaws}
 use Rattle.traces.specs.TurnLaws.{TurnLaws}
-use Rattle.memory.specs.Memory.{Memory, HasBytes, memory_of, with_stack}
-use Rattle.x86_code.specs.Code.{Code}
+use Rattle.memory.specs.Memory.{Memory, HasBytes, with_stack}
+use Rattle.x86_code.specs.Code.{Code, code_of}
 use Rattle.x86_meaning.specs.Step.{State, next}
 use Rattle.x86_meaning.specs.Run.{IsStart, start_over, machine, run_from}
 use Rattle.x86_meaning.specs.RunLaws.{ProgramLaws}
 use Rattle.flag_ir.specs.UnitRun.{unit_run}
 use Rattle.flag_ir.specs.UnitLaws.{UnitLaws}
-use Rattle.cut_run.specs.CutRun.{cut_run_over, cut_run}
+use Rattle.cut_run.specs.CutRun.{cut_run_over}
 use Rattle.private_memory.specs.PrivateArea.{IsUsual, without_private, with_private, is_apart_access, is_clear_access}
 use Rattle.private_memory.specs.PrivateAreaLaws.{UsualLaws}
 use Rattle.named_code.specs.Items.{CodeBlock, named_blocks, placed_blocks}
@@ -95,7 +95,7 @@ module _ (given : Given) where
   -- ---- one program
   module _ (x : Layers) (layers : AreLayers x) (esp0 : ℕ) (stack : List ℕ) (left : Environment) (start : IsStart esp0 stack) (env : IsEnvironment left) where
     abbrev old : Memory
-    old = memory_of x.image
+    old = x.data
 
     abbrev usual : Memory
     usual = with_private esp0 old
@@ -107,7 +107,7 @@ module _ (given : Given) where
     blocks = placed_blocks x.placed
 
     abbrev cut : Behaviour
-    cut = cut_run x.image x.found esp0 stack left
+    cut = cut_run_over (code_of x.image) x.found old x.image.entry esp0 stack left
 
     abbrev unit : Behaviour
     unit = unit_run x.unit old x.image.entry esp0 stack left

@@ -16,3 +16,4 @@ mod Simulating
 pub mod Laid
 mod FirstMemories
 pub mod Beginnings
+pub mod Forms

@@ -15,10 +15,12 @@ use Rattle.x86_types.specs.declared.instr.Instr.TheVariants as instr
 use Rattle.memory.specs.Memory.{wrapped}
 use Rattle.x86_code.specs.Code.{Code}
 use Rattle.x86_meaning.specs.Registers.{machine_naming}
-use Rattle.named_code.specs.Items.{Item, CodeBlock}
+use Rattle.named_code.specs.declared.placed.Placed.{Placed}
+use Rattle.named_code.specs.Items.{Item, CodeBlock, placed_blocks}
 use Rattle.named_code.specs.Running.{block_of_number, block_at}
 use Rattle.field_places.specs.Fields.{fields}
 use Rattle.named_code.specs.Form.{IsStackless, NamesBlock}
+use Rattle.named_code.specs.PlacedForm.{IsPlacedInForm}
 use Rattle.named_code.specs.Weight.{IsOnce}
 
 -- The places that are found last: of the blocks by number, of the old addresses from `span` on, so many of them, and of a stop, where nothing
@@ -115,3 +117,7 @@ pub record IsLayable (numbers : List ℕ) (x : Item) : Type 0 where
 
 abbrev pub AreLayable : List CodeBlock → Type 0
 AreLayable blocks = All (λ (b : CodeBlock). All (IsLayable (map (λ (c : CodeBlock). c.number) blocks)) b.items) blocks
+
+-- ---- placed code in form can be laid, where no string instruction repeats
+abbrev pub FormIsLayable : Type 0
+FormIsLayable = (p : Placed) → IsPlacedInForm p → All (λ (b : CodeBlock). All IsOnce b.items) (placed_blocks p) → AreLayable (placed_blocks p)

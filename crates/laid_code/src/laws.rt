@@ -1,4 +1,5 @@
 // The law of the definitions.
+ghost use Rattle.laid_code.specs.Laid.{FormIsLayable};
 ghost use Rattle.laid_code.specs.Beginning.{BeginningLaws};
 ghost use Rattle.laid_code.specs.LaidRun.{LaidLaws};
 
@@ -57,3 +58,8 @@ pub fn beginning_laws()
     tested_laws();
     run_laws::<Meaning>();
 }
+
+/// Its clause says that placed code in form can be laid, where no string instruction repeats.
+pub fn form_laws()
+    ensures { FormIsLayable }
+{}

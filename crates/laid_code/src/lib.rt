@@ -3,4 +3,4 @@
 
 mod laws;
 
-pub use laws::{beginning_laws, laid_laws};
+pub use laws::{beginning_laws, form_laws, laid_laws};
