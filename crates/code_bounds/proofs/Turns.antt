@@ -1,6 +1,8 @@
 -- The steps of a turn, from the unit's operations to what is written for the code that is chosen for them.
-use Rattle.std.proofs.Common.{◌≡◌, ℕ, ◌+◌, ◌*◌, ◌≤◌, ◌==◌, Bool, true, false, cond, List, [], ◌∷◌, map, refl, subst, arith, None}
+use Rattle.std.proofs.Common.{◌≡◌, ℕ, ◌+◌, ◌*◌, ◌≤◌, ◌==◌, Bool, true, false, cond, List, [], ◌∷◌, map, refl, subst, arith, Some, None}
 use Rattle.std.proofs.Math.Nat.{mul-le-mul_left, one-mul}
+use Rattle.x86_types.specs.declared.instr.Instr.{Instr}
+use Rattle.x86_types.specs.declared.instr.Instr.TheVariants as instr
 use Rattle.flag_ir.specs.declared.operation.Op.{Op}
 use Rattle.flag_ir.specs.declared.block.Block.{Block}
 use Rattle.flag_ir.specs.declared.block.Exit.{Exit}
