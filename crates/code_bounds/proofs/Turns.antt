@@ -12,7 +12,6 @@ use Rattle.flag_ir.specs.Costs.{Costing, one_each, list_cost, block_cost, allowe
 use Rattle.guards.specs.Guarding.{lowered_costing}
 use Rattle.guards.specs.Lowering.{Lowers}
 use Rattle.named_code.specs.declared.named.VBlock.{VBlock}
-use Rattle.named_code.specs.declared.named.VInstr.{VInstr}
 use Rattle.named_code.specs.declared.placed.Placed.{Placed}
 use Rattle.named_code.specs.Items.{Item, named_item, named_blocks}
 use Rattle.named_code.specs.Weight.{items_cost, BoundsCode}
@@ -23,8 +22,8 @@ use Rattle.instr_choose.specs.Blocks.{choose_exit}
 use Rattle.instr_choose.specs.Marks.{marks_of}
 use Rattle.instr_choose.specs.Choosing.{chosen_costing, Chooses}
 use Rattle.laid_code.specs.LaidRun.{instr_steps, laid_steps}
-use Rattle.code_bounds.specs.Steps.{move_count, steps}
-use Rattle.code_bounds.specs.Operations.{op_steps, exit_steps, store_steps}
+use Rattle.code_bounds.specs.Steps.{steps}
+use Rattle.code_bounds.specs.Operations.{op_steps, store_steps}
 use Rattle.code_bounds.specs.Turns.{turn_steps, HasTurnBounds, TurnBounds}
 use Rattle.code_bounds.proofs.Placed.{steps_within}
 use Rattle.code_bounds.proofs.Chosen.{exit_priced}
@@ -108,7 +107,7 @@ module _ (u v : CodeUnit) (code : List VBlock) (p : Placed) (w : ℕ) (rest : Pa
     laid = (
       least,
       places.costs (marks_of v) laid_steps steps least (turn_steps w) (λ x placeable. steps_within p.homes (name_count code) x placeable.few)
-        (code_bounded steps (λ x. omega arith) u v code w rest turns lowers chooses)
+          (code_bounded steps (λ x. omega arith) u v code w rest turns lowers chooses),
     );
   }
 
