@@ -5,3 +5,5 @@ pub mod Placed
 pub mod Pricing
 pub mod Chosen
 pub mod Guarded
+pub mod Classes
+pub mod Turns

@@ -18,7 +18,8 @@ use Rattle.name_cells.specs.Holders.{has_byte_field, holder, last_name, field_re
 use Rattle.name_cells.specs.Renaming.{by_registers}
 use Rattle.name_cells.specs.Placing.{fetches, keeps, own, lend, give_back}
 use Rattle.named_code.specs.Weight.{items_cost}
-use Rattle.code_bounds.specs.Steps.{own_steps, placed_steps, move_count, steps}
+use Rattle.laid_code.specs.LaidRun.{instr_steps, laid_steps}
+use Rattle.code_bounds.specs.Steps.{move_count, steps}
 use Rattle.code_bounds.specs.Bytes.{placed_bytes, bytes}
 use Rattle.code_bounds.specs.LengthLaws.{items_of, LengthLaws}
 use Rattle.code_bounds.proofs.Names.{count, has_name, moves_of, borrows, moves_are}
@@ -81,13 +82,13 @@ module _ (c : Item → ℕ) (homes : List Home) (m : ℕ) (fetch_within : (n : �
       omega (arith, e1, e2, e3, l1, l2, l3, l4, lent_is, moves, twice (count x.slots) (cond (byte && has_name x.slots) 1 0))
 
 -- ---- steps and bytes
-same_steps : (f : Renaming) (i : Instr) → own_steps (renamed f i) ≡ own_steps i
+same_steps : (f : Renaming) (i : Instr) → instr_steps (renamed f i) ≡ instr_steps i
 same_steps f (instr.JmpTo to) = refl
 same_steps f i = refl
 
-steps_within : (homes : List Home) (spare : ℕ) (x : VInstr) → length x.slots ≤ 3 → items_cost placed_steps (items_of homes spare x) ≤ steps (named_item x)
+pub steps_within : (homes : List Home) (spare : ℕ) (x : VInstr) → length x.slots ≤ 3 → items_cost laid_steps (items_of homes spare x) ≤ steps (named_item x)
 steps_within homes spare x h =
-    let l = placed_within placed_steps homes 1 (λ n r. omega arith) (λ n r. omega arith) spare x h in
+    let l = placed_within laid_steps homes 1 (λ n r. omega arith) (λ n r. omega arith) spare x h in
     omega (arith, l, same_steps (by_registers (field_registers (has_byte_field x.instr) x.slots)) x.instr)
 
 fetch_short : (n : ℕ) (r : Reg) → placed_bytes (fetch_from n r) ≤ 6

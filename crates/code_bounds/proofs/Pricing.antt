@@ -19,7 +19,8 @@ use Rattle.named_code.specs.Items.{Item, named_item}
 use Rattle.name_cells.specs.Holders.{has_byte_field}
 use Rattle.instr_choose.specs.Lists.{made, put, copy, extend, copy_byte, alu_by, set_if, move_if, shift_by, multiply_by, divide_by, load_by, store_by}
 use Rattle.named_code.specs.Weight.{items_cost}
-use Rattle.code_bounds.specs.Steps.{own_steps, move_count, steps}
+use Rattle.laid_code.specs.LaidRun.{instr_steps}
+use Rattle.code_bounds.specs.Steps.{move_count, steps}
 use Rattle.code_bounds.specs.Bytes.{opcode_length, most_bytes, bytes}
 use Rattle.code_bounds.proofs.Names.{moves_of, moves_are}
 
@@ -34,7 +35,7 @@ pub record IsPriced (s b : ℕ) (xs : List VInstr) : Type 0 where
 pub none : IsPriced 0 0 []
 none = record { in_steps = omega arith; in_bytes = omega arith }
 
-one : (s b : ℕ) (x : VInstr) → length x.slots ≤ 3 → own_steps x.instr + moves_of x ≤ s → most_bytes x.instr + 6 * moves_of x ≤ b → IsPriced s b (x ∷ [])
+one : (s b : ℕ) (x : VInstr) → length x.slots ≤ 3 → instr_steps x.instr + moves_of x ≤ s → most_bytes x.instr + 6 * moves_of x ≤ b → IsPriced s b (x ∷ [])
 one s b x few h k =
     let e : move_count (named_item x) ≡ moves_of x = moves_are x few in
     let g : 6 * move_count (named_item x) ≡ 6 * moves_of x = ap (λ n. 6 * n) e in
@@ -148,8 +149,8 @@ pub copy_byte_fixed : (q r : Reg) → IsPriced 1 2 (copy_byte (Fixed q) (Fixed r
 unfolding has_byte_field
 copy_byte_fixed q r = one _ _ _ (omega arith) (omega arith) (omega arith)
 
-pub plain_one : (s b : ℕ) (i : Instr) → own_steps i ≤ s → most_bytes i ≤ b → has_byte_field i ≡ false → IsPriced s b (made i [] ∷ [])
-plain_one s b i h k e = one _ _ _ (omega arith) (moves_none s (own_steps i) h) (moves_six b (most_bytes i) k)
+pub plain_one : (s b : ℕ) (i : Instr) → instr_steps i ≤ s → most_bytes i ≤ b → has_byte_field i ≡ false → IsPriced s b (made i [] ∷ [])
+plain_one s b i h k e = one _ _ _ (omega arith) (moves_none s (instr_steps i) h) (moves_six b (most_bytes i) k)
   where
     no_moves : moves_of (made i []) ≡ 0
     no_moves = ap (λ b. 2 * (0 + cond (b && false) 1 0)) e
@@ -187,6 +188,12 @@ store_fixed Four (term.Var v) r = one _ _ _ (omega arith) (omega arith) (omega a
 store_fixed One (term.Word n) r = one _ _ _ (omega arith) (omega arith) (omega arith)
 store_fixed Two (term.Word n) r = one _ _ _ (omega arith) (omega arith) (omega arith)
 store_fixed Four (term.Word n) r = one _ _ _ (omega arith) (omega arith) (omega arith)
+
+pub store_fixed_at : (w : Width) (n : ℕ) (r : Reg) → IsPriced 1 7 (store_by w (term.Word n) (Fixed r) ∷ [])
+unfolding has_byte_field
+store_fixed_at One n r = one _ _ _ (omega arith) (omega arith) (omega arith)
+store_fixed_at Two n r = one _ _ _ (omega arith) (omega arith) (omega arith)
+store_fixed_at Four n r = one _ _ _ (omega arith) (omega arith) (omega arith)
 
 -- at a number, of a word
 pub store_word : (n : ℕ) (r : Reg) → IsPriced 1 6 (store_by Four (term.Word n) (Fixed r) ∷ [])

@@ -7,7 +7,8 @@ use Rattle.named_code.specs.declared.placed.Home.{Home}
 use Rattle.named_code.specs.Items.{Item, named_item, placed_item}
 use Rattle.name_cells.specs.Placing.{place_instr}
 use Rattle.named_code.specs.Weight.{items_cost}
-use Rattle.code_bounds.specs.Steps.{placed_steps, steps}
+use Rattle.laid_code.specs.LaidRun.{laid_steps}
+use Rattle.code_bounds.specs.Steps.{steps}
 use Rattle.code_bounds.specs.Bytes.{own_bytes, placed_bytes, most_bytes, bytes}
 
 abbrev pub items_of : List Home → ℕ → VInstr → List Item
@@ -17,5 +18,5 @@ pub record LengthLaws : Type 0 where
   -- with whatever registers in its fields
   pub shape : (f : Renaming) (i : Instr) → own_bytes (renamed f i) ≤ most_bytes i
   -- among its names' cells
-  pub placed_steps_within : (homes : List Home) (spare : ℕ) (x : VInstr) → length x.slots ≤ 3 → items_cost placed_steps (items_of homes spare x) ≤ steps (named_item x)
+  pub placed_steps_within : (homes : List Home) (spare : ℕ) (x : VInstr) → length x.slots ≤ 3 → items_cost laid_steps (items_of homes spare x) ≤ steps (named_item x)
   pub placed_bytes_within : (homes : List Home) (spare : ℕ) (x : VInstr) → length x.slots ≤ 3 → items_cost placed_bytes (items_of homes spare x) ≤ bytes (named_item x)

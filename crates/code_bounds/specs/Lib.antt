@@ -3,3 +3,4 @@ pub mod LengthLaws
 pub mod OperationLaws
 pub mod Operations
 pub mod Steps
+pub mod Turns

@@ -1,21 +1,12 @@
--- How many steps of the written file an item takes. All of this is own.
+-- How many steps of the written file an instruction over names takes. All of this is own.
 use Rattle.std.specs.Prelude.{ℕ, ◌+◌, ◌*◌, ◌==◌, ◌&&◌, not, Bool, cond, ltb}
 use Rattle.x86_types.specs.declared.operand.Reg.TheVariants.{Eax, Ecx, Edx}
-use Rattle.x86_types.specs.declared.instr.Instr.{Instr}
-use Rattle.x86_types.specs.declared.instr.Instr.TheVariants as instr
 use Rattle.x86_meaning.specs.Registers.{Naming}
 use Rattle.named_code.specs.Items.{Item}
 use Rattle.name_cells.specs.Holders.{has_byte_field}
+use Rattle.laid_code.specs.LaidRun.{instr_steps}
 
--- ---- an instruction over registers: a jump to an old address reads the address table first
-abbrev pub own_steps : Instr → ℕ
-own_steps (instr.JmpTo to) = 6
-own_steps _ = 1
-
-abbrev pub placed_steps : Item → ℕ
-placed_steps x = own_steps x.instr
-
--- ---- an instruction over names: a MOV of each from its cell, and one back
+-- ---- a MOV of each name from its cell, and one back
 -- places 0 to 7 are the registers
 abbrev pub count_of_place : ℕ → ℕ
 count_of_place p = cond (ltb p 8) 0 1
@@ -32,4 +23,4 @@ abbrev pub move_count : Item → ℕ
 move_count x = let names = named_fields x.naming in 2 * (names + lent_count (has_byte_field x.instr) names)
 
 abbrev pub steps : Item → ℕ
-steps x = own_steps x.instr + move_count x
+steps x = instr_steps x.instr + move_count x

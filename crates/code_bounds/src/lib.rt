@@ -3,4 +3,4 @@
 
 mod laws;
 
-pub use laws::{length_laws, operation_laws};
+pub use laws::{length_laws, operation_laws, turn_bounds};
