@@ -75,7 +75,7 @@ register_rm : (f : Field) (w : Width) (from : Rm) → SameRegisters (f ∷ field
 register_rm f w from = behind f f.register (field.rm_fields w from) (form.rm_fields from) refl (of_rm w from)
 
 same_registers : (i : Instr) → SameRegisters (fields i) (register_fields i)
-unfolding fields, register_fields
+unfolding fields register_fields
 same_registers (instr.Alu op w to from) = rm_src w to from
 same_registers (instr.Test w left right) = rm_src w left right
 same_registers (instr.Mov w to from) = rm_src w to from
@@ -134,6 +134,7 @@ one_not_esp : (r : Reg) → r ≢ Esp → All NotEsp (r ∷ [])
 one_not_esp r h = All-cons NotEsp r [] h (All-nil NotEsp)
 
 item_layable : (homes : List Home) (numbers : List ℕ) (x : PInstr) → IsItemInForm homes numbers x → IsOnce (placed_item homes x) → IsLayable numbers (placed_item homes x)
+unfolding register_fields
 item_layable homes numbers (item.Own i) h once = record {
   own = refl;
   no_esp = fields_not_esp (fields i) (register_fields i) (same_registers i) h.fields;
@@ -146,8 +147,8 @@ item_layable homes numbers (item.Fetch n r) h once =
     record {
       own = refl;
       no_esp = fields_not_esp (fields i) (r ∷ []) (same_registers i) (one_not_esp r h.register);
-      stackless = unit;
-      target = unit;
+      stackless = tt;
+      target = tt;
       once = once;
     }
 item_layable homes numbers (item.Keep n r) h once =
@@ -155,8 +156,8 @@ item_layable homes numbers (item.Keep n r) h once =
     record {
       own = refl;
       no_esp = fields_not_esp (fields i) (r ∷ []) (same_registers i) (one_not_esp r h.register);
-      stackless = unit;
-      target = unit;
+      stackless = tt;
+      target = tt;
       once = once;
     }
 
