@@ -1,0 +1,3 @@
+mod Spans
+mod Pages
+pub mod Laying
