@@ -48,4 +48,4 @@ pub record ImageLaws : Type 0 where
   pub program : (old : List Segment) (entry : ℕ) → FitsSourceRoom old entry → IsOfProgram (memory_of (image_with old entry))
   pub bytes : (old : List Segment) (entry : ℕ) → HoldsBytes old → HasBytes (memory_of (image_with old entry))
   -- other bytes in the same pages
-  pub data : (old data : List Segment) (entry : ℕ) → FitsSourceRoom old entry → HasPagesOf old data → FitsSourceRoom data entry
+  pub other_bytes : (old others : List Segment) (entry : ℕ) → FitsSourceRoom old entry → HasPagesOf old others → FitsSourceRoom others entry
