@@ -14,7 +14,7 @@ use Rattle.laid_image.proofs.Lists.{each_weaker}
 use Rattle.laid_image.proofs.Fits.{own_starts}
 
 -- ---- in any list
-holds_past : (a : ℕ) (s : Segment) → segment_end s ≤ a → holds a s ≡ false
+pub holds_past : (a : ℕ) (s : Segment) → segment_end s ≤ a → holds a s ≡ false
 holds_past a s h = grind (arith, nat_tests)
 
 holds_before : (a : ℕ) (s : Segment) → a < s.start → holds a s ≡ false

@@ -1,3 +1,7 @@
 mod Lists
 pub mod Fits
 mod Finding
+pub mod CodeBytes
+pub mod OldMemory
+pub mod TableWords
+mod NewMemory
