@@ -5,3 +5,4 @@ pub mod CodeBytes
 pub mod OldMemory
 pub mod TableWords
 mod NewMemory
+mod NameCells
