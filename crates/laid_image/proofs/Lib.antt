@@ -6,3 +6,5 @@ pub mod OldMemory
 pub mod TableWords
 mod NewMemory
 mod NameCells
+mod FirstCells
+pub mod FirstMemory

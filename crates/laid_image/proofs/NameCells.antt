@@ -38,7 +38,7 @@ pub data CellAt (homes : List Home) (a : ℕ) : Type 0 where
   in_cell : (n j : ℕ) → n < length homes → j < 4 → a ≡ cell_of homes n + j → CellAt homes a
   in_none : AllByRecursion (λ (h : Home). LiesBeside h.cell a) homes → CellAt homes a
 
-at_word : (cell a : ℕ) → LiesBeside cell a ⊎ ((cell ≤ a) × (a < cell + 4))
+pub at_word : (cell a : ℕ) → LiesBeside cell a ⊎ ((cell ≤ a) × (a < cell + 4))
 at_word cell a = grind arith
 
 behind_first : (h : Home) (more : List Home) (a : ℕ) → LiesBeside h.cell a → CellAt more a → CellAt (h ∷ more) a

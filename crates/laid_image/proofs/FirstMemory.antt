@@ -1,0 +1,1 @@
+-- The memory of a written file is that with which laid code begins.
