@@ -3,7 +3,7 @@ use Rattle.std.proofs.Common.{◌≡◌, ◌≢◌, ◌⊎◌, ℕ, zero, suc, �
 use Rattle.std.proofs.lemmas.List.{get_or_past, get_or_default}
 use Rattle.std.proofs.lemmas.List.Elements.{All-weaker, All-from_recursion, recursion_from_All}
 use Rattle.std.proofs.lemmas.Option.{slice_get-get_or, slice_get_past}
-use Rattle.std.proofs.lemmas.Bool.{le-leb, neq-eqb}
+use Rattle.std.proofs.lemmas.Bool.{le-leb, ne_eqb}
 use Rattle.std.specs.List.{AllByRecursion}
 use Rattle.std.specs.Option.{option_map_or}
 use Rattle.x86_values.specs.declared.byte.Byte.{Byte}
@@ -163,7 +163,7 @@ module _ (homes : List Home) (are : AreCells homes) where
               ∙ sym (at_esp j (omega (arith, within, four)) few (is ∙ ap (λ r. cell_of homes r + j) four)))
           by (inr other) =
               in_name k j within few is
-              ∙ (ap (λ t. Some (own_place (byte_of_word (cond t (word_of esp0) (word_of 0)) j))) (neq-eqb k 4 other)
+              ∙ (ap (λ t. Some (own_place (byte_of_word (cond t (word_of esp0) (word_of 0)) j))) (ne_eqb k 4 other)
               ∙ (ap (λ b. Some (own_place b)) (zero_byte j few)
               ∙ sym (both_beside a (beside_named k j within few is other) (behind_first k j within is) ∙ right)))
 
