@@ -19,7 +19,7 @@ use Rattle.laid_code.specs.Beginning.{with_esp, CanBegin}
 use Rattle.code_text.specs.KeptPlaces.{code_start, table_start}
 use Rattle.laid_image.specs.NewImage.{whole_pages, in_pages, as_data, own_segment, words_bytes, own_segments, new_segments, new_image, FitsSourceRoom, HasNewRoom}
 use Rattle.laid_image.specs.ImageLaws.{HoldsBytes, AreCells, esp_cell}
-use Rattle.laid_image.proofs.OldMemory.{program, segments_have_bytes}
+use Rattle.laid_image.proofs.OldMemory.{none_from, segments_have_bytes}
 use Rattle.laid_image.proofs.NewMemory.{own_place, data_same, cells_zero, variables_zero, frames_zero, none_behind, off_stack}
 use Rattle.laid_image.proofs.FirstCells.{esp_cell_is, cell_from, cell_to, same_outside, same_cells}
 
@@ -149,7 +149,7 @@ module _ (laws : MemoryLaws) (old : List Segment) (entry size : ℕ) (code words
 
   outside_same : (a : ℕ) → (a < 0x60000000) ⊎ (0x7C000000 ≤ a) → left a ≡ new a
   outside_same a (inl low) = private_out esp0 known a (inl low) ∙ sym (data_same old entry size code words fits room a low)
-  outside_same a (inr high) = private_out esp0 known a (inr high) ∙ (?  ∙ sym (none_behind old entry size code words fits room a high))
+  outside_same a (inr high) = private_out esp0 known a (inr high) ∙ (none_from old entry fits a (omega (arith, high)) ∙ sym (none_behind old entry size code words fits room a high))
 
   far : (a : ℕ) → (a < 0x60000000) ⊎ (0x7C000000 ≤ a) → (a < 0x75000000) ⊎ (0x75800000 ≤ a)
   far a (inl low) = inl (omega (arith, low))

@@ -8,3 +8,4 @@ mod NewMemory
 mod NameCells
 mod FirstCells
 pub mod FirstMemory
+pub mod OtherBytes

@@ -16,11 +16,15 @@ use Rattle.laid_image.specs.NewImage.{FitsSourceRoom}
 use Rattle.laid_image.specs.ImageLaws.{HoldsBytes}
 use Rattle.laid_image.proofs.Finding.{none_low, none_high}
 
+pub none_from : (old : List Segment) (entry : ℕ) → FitsSourceRoom old entry → (a : ℕ) → 0x50000000 ≤ a → memory_of (image_with old entry) a ≡ None
+unfolding memory_of segment_at
+none_from old entry fits a from = ap (option_map (place_in a)) (none_high old entry fits a from)
+
 pub program : (old : List Segment) (entry : ℕ) → FitsSourceRoom old entry → IsOfProgram (memory_of (image_with old entry))
 unfolding memory_of segment_at
 program old entry fits = record {
   first_page = λ a low. ap (option_map (place_in a)) (none_low old entry fits a low);
-  gap = λ a from to. ap (option_map (place_in a)) (none_high old entry fits a from);
+  gap = λ a from to. none_from old entry fits a from;
 }
 
 -- ---- bytes
