@@ -11,7 +11,7 @@ use Rattle.x86_code.specs.Code.{code_of}
 use Rattle.x86_code.specs.CodeLaws.{CodeLaws}
 use Rattle.code_text.specs.KeptPlaces.{code_start}
 use Rattle.code_text.specs.Placing.{HasBytesFrom}
-use Rattle.laid_image.specs.NewImage.{own_segments, new_segments, new_image, FitsSourceRoom, HasNewRoom}
+use Rattle.laid_image.specs.NewImage.{new_segments, new_image, FitsSourceRoom, HasNewRoom}
 use Rattle.laid_image.proofs.Lists.{each_weaker}
 use Rattle.laid_image.proofs.Fits.{can_be_written}
 use Rattle.laid_image.proofs.Finding.{holds_past, none_before, code_one, table_one, cells, variables, frames, in_code, above}
@@ -57,16 +57,16 @@ module _ (old : List Segment) (entry size : ℕ) (code words : List ℕ) (fits :
     bytes_from zero k h = refl
     bytes_from (suc n) k h = elim (split k) [
       | inl within ↦
-      let next : code_start + k + 1 ≡ code_start + (k + 1) = omega arith in
-      let more : drop k code ≡ get_or code k 0 ∷ drop (suc k) code = drop-cons code k 0 (omega (arith, whole, within)) in
-      first_and_rest (code_byte_at image (code_start + k)) (get_or code k 0) (code_bytes image (code_start + k + 1) n) (byte_found k within)
-      ∙ (ap (λ a. get_or code k 0 ∷ code_bytes image a n) next
-      ∙ (ap (λ bs. get_or code k 0 ∷ bs) (bytes_from n (k + 1) (omega (arith, within)))
-      ∙ (ap (λ m. get_or code k 0 ∷ take n (drop m code)) (add-one k)
-      ∙ sym (ap (take (suc n)) more))))
+          let next : code_start + k + 1 ≡ code_start + (k + 1) = omega arith in
+          let more : drop k code ≡ get_or code k 0 ∷ drop (suc k) code = drop-cons code k 0 (omega (arith, whole, within)) in
+          first_and_rest (code_byte_at image (code_start + k)) (get_or code k 0) (code_bytes image (code_start + k + 1) n) (byte_found k within)
+          ∙ (ap (λ a. get_or code k 0 ∷ code_bytes image a n) next
+          ∙ (ap (λ bs. get_or code k 0 ∷ bs) (bytes_from n (k + 1) (omega (arith, within)))
+          ∙ (ap (λ m. get_or code k 0 ∷ take n (drop m code)) (add-one k)
+          ∙ sym (ap (take (suc n)) more))))
       | inr past ↦
-      ap (λ o. then_code o (code_bytes image (code_start + k + 1) n)) (byte_missed (code_start + k) (omega (arith, past)))
-      ∙ sym (ap (take (suc n)) (drop_all k code (omega (arith, whole, past))))
+          ap (λ o. then_code o (code_bytes image (code_start + k + 1) n)) (byte_missed (code_start + k) (omega (arith, past)))
+          ∙ sym (ap (take (suc n)) (drop_all k code (omega (arith, whole, past))))
     ]
 
     pub has_bytes : CodeLaws → HasBytesFrom (code_of image) code_start code

@@ -1,12 +1,11 @@
 -- At the beginning the cells hold the words of the names, on both sides.
-use Rattle.std.proofs.Common.{◌≡◌, ◌≢◌, ◌⊎◌, ℕ, zero, suc, ◌+◌, ◌-◌, ◌%◌, ◌<◌, ◌≤◌, ◌==◌, Bool, true, false, cond, leb, List, length, get_or, All, Option, Some, None, inl, inr, refl, sym, ap, ◌∙◌, subst, arith}
+use Rattle.std.proofs.Common.{◌≡◌, ◌≢◌, ◌⊎◌, ℕ, zero, suc, ◌+◌, ◌-◌, ◌%◌, ◌<◌, ◌≤◌, cond, List, length, get_or, Some, None, inl, inr, refl, sym, ap, ◌∙◌, subst, arith}
 use Rattle.std.proofs.lemmas.List.{get_or_past, get_or_default}
 use Rattle.std.proofs.lemmas.List.Elements.{All-weaker, All-from_recursion, recursion_from_All}
 use Rattle.std.proofs.lemmas.Option.{slice_get-get_or, slice_get_past}
 use Rattle.std.proofs.lemmas.Bool.{le-leb, ne_eqb}
 use Rattle.std.specs.List.{AllByRecursion}
 use Rattle.std.specs.Option.{option_map_or}
-use Rattle.x86_values.specs.declared.byte.Byte.{Byte}
 use Rattle.x86_values.specs.declared.byte.Byte.TheVariants.{Known, Unspecified}
 use Rattle.x86_values.specs.Words.{word_of, word_list}
 use Rattle.memory.specs.Memory.{Memory, with_byte, put_all}
@@ -20,7 +19,7 @@ use Rattle.named_code.specs.CodeRun.{with_cells}
 use Rattle.laid_code.specs.Beginning.{with_esp}
 use Rattle.laid_image.specs.ImageLaws.{AreCells, esp_cell}
 use Rattle.laid_image.proofs.NewMemory.{own_place}
-use Rattle.laid_image.proofs.NameCells.{LiesBeside, byte_of_word, word_there, word_elsewhere, CellAt, in_cell, in_none, at_word, cell_at, Fitting, none_stands, one_stands}
+use Rattle.laid_image.proofs.NameCells.{LiesBeside, byte_of_word, word_there, word_elsewhere, in_cell, in_none, at_word, cell_at, Fitting, none_stands, one_stands}
 
 no_home : Home
 no_home = record { register = None; cell = 0 }
@@ -74,10 +73,10 @@ module _ (homes : List Home) (are : AreCells homes) where
   others_beside n j within few a is i less other = elim (at_word (cell_of homes i) a) [
     | inl beside ↦ beside
     | inr there ↦
-    let one = (cell_in n within).word in
-    let two = (cell_in i less).word in
-    let same : cell_of homes i ≡ cell_of homes n = omega (arith, is, few, there.0, there.1, one, two) in
-    absurd (other (are.apart i n less within same))
+        let one = (cell_in n within).word in
+        let two = (cell_in i less).word in
+        let same : cell_of homes i ≡ cell_of homes n = omega (arith, is, few, there.0, there.1, one, two) in
+        absurd (other (are.apart i n less within same))
   ]
 
   -- ---- both sides at an address
@@ -139,11 +138,11 @@ module _ (homes : List Home) (are : AreCells homes) where
       at_esp j more few is = elim esp [
         | at_first none e ↦ absurd (omega (arith, more, none))
         | at_name named e ↦
-        let word = word_of esp0 in
-        let under : Memory = put_all 0x75000000 (word_list word) n in
-        let here : a ≡ cell + j = omega (arith, is, e) in
-        subst (λ x. put_all cell (word_list word) under x ≡ with_byte (byte_of_word word j) (under x)) (sym here) (word_there laws cell (let to = cell_to in omega (arith, to)) word under j few)
-        ∙ ap (with_byte (byte_of_word word j)) (word_elsewhere laws 0x75000000 (omega arith) word n a (behind_first 4 j named is) ∙ right)
+            let word = word_of esp0 in
+            let under : Memory = put_all 0x75000000 (word_list word) n in
+            let here : a ≡ cell + j = omega (arith, is, e) in
+            subst (λ x. put_all cell (word_list word) under x ≡ with_byte (byte_of_word word j) (under x)) (sym here) (word_there laws cell (let to = cell_to in omega (arith, to)) word under j few)
+            ∙ ap (with_byte (byte_of_word word j)) (word_elsewhere laws 0x75000000 (omega arith) word n a (behind_first 4 j named is) ∙ right)
       ]
 
       beside_named : (k j : ℕ) → k < length homes → j < 4 → a ≡ cell_of homes k + j → k ≢ 4 → LiesBeside cell a
@@ -177,12 +176,12 @@ module _ (homes : List Home) (are : AreCells homes) where
       both_first : (j : ℕ) → j < 4 → a ≡ 0x75000000 + j → both a ≡ Some (own_place (byte_of_word (word_of esp0) j))
       both_first j few is = elim esp [
         | at_first none e ↦
-        let here : a ≡ cell + j = omega (arith, is, e) in
-        subst (λ x. put_all cell (word_list (word_of esp0)) under x ≡ with_byte (byte_of_word (word_of esp0) j) (under x)) (sym here) (word_there laws cell (let to = cell_to in omega (arith, to)) (word_of esp0) under j few)
-        ∙ ap (with_byte (byte_of_word (word_of esp0) j)) one
+            let here : a ≡ cell + j = omega (arith, is, e) in
+            subst (λ x. put_all cell (word_list (word_of esp0)) under x ≡ with_byte (byte_of_word (word_of esp0) j) (under x)) (sym here) (word_there laws cell (let to = cell_to in omega (arith, to)) (word_of esp0) under j few)
+            ∙ ap (with_byte (byte_of_word (word_of esp0) j)) one
         | at_name named e ↦
-        let low = (cell_in 4 named).from in
-        word_elsewhere laws cell (let to = cell_to in omega (arith, to)) (word_of esp0) under a (inl (omega (arith, is, few, low, e))) ∙ one
+            let low = (cell_in 4 named).from in
+            word_elsewhere laws cell (let to = cell_to in omega (arith, to)) (word_of esp0) under a (inl (omega (arith, is, few, low, e))) ∙ one
       ]
         where
           under : Memory

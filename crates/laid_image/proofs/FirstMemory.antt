@@ -1,5 +1,5 @@
 -- The memory of a written file is that with which laid code begins.
-use Rattle.std.proofs.Common.{◌≡◌, ◌⊎◌, ℕ, ◌+◌, ◌*◌, ◌/◌, ◌%◌, ◌<◌, ◌≤◌, ◌&&◌, ◌||◌, Bool, true, false, cond, leb, ltb, List, [], ◌∷◌, ◌++◌, length, map, replicate, All, Option, Some, None, inl, inr, refl, sym, ap, ◌∙◌, subst, arith}
+use Rattle.std.proofs.Common.{◌≡◌, ◌⊎◌, ℕ, ◌*◌, ◌/◌, ◌%◌, ◌<◌, ◌≤◌, true, false, List, [], ◌∷◌, ◌++◌, length, map, replicate, All, Option, Some, None, inl, inr, refl, sym, ap, ◌∙◌, subst, arith}
 use Rattle.std.proofs.lemmas.List.Elements.{All-nil, All-cons, All-append, All-map, All-replicate, All-take}
 use Rattle.std.proofs.lemmas.Bool.{le-leb, lt-ltb, lt-leb, le-ltb}
 use Rattle.byte_lists.specs.LittleEndian.{word_bytes}
@@ -12,7 +12,7 @@ use Rattle.image.specs.Wanted.{image_with}
 use Rattle.memory.specs.Memory.{Place, Memory, HasBytes, kind_of, memory_of, put_all}
 use Rattle.memory.specs.MemoryLaws.{MemoryLaws}
 use Rattle.memory.specs.LessSpecified.{PlaceLessSpecified}
-use Rattle.private_memory.specs.PrivateArea.{is_private, is_unreserved, private_byte, private_place, with_private}
+use Rattle.private_memory.specs.PrivateArea.{is_private, is_unreserved, private_byte, with_private}
 use Rattle.named_code.specs.declared.placed.Home.{Home}
 use Rattle.named_code.specs.CodeRun.{with_cells}
 use Rattle.laid_code.specs.Beginning.{with_esp, CanBegin}

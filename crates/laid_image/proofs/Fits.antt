@@ -1,19 +1,19 @@
 -- The image of a written file can be written.
-use Rattle.std.proofs.Common.{◌≡◌, ℕ, ◌+◌, ◌-◌, ◌*◌, ◌/◌, ◌%◌, ◌<◌, ◌≤◌, ◌==◌, ◌&&◌, ◌||◌, Bool, true, false, cond, ltb, leb, max, List, [], ◌∷◌, ◌++◌, length, map, replicate, refl, sym, ap, ap₂, ◌∙◌, subst, arith, length-append}
+use Rattle.std.proofs.Common.{◌≡◌, ℕ, ◌+◌, ◌-◌, ◌*◌, ◌/◌, ◌%◌, ◌<◌, ◌≤◌, ◌==◌, ◌&&◌, ◌||◌, Bool, true, false, cond, ltb, max, List, [], ◌∷◌, ◌++◌, length, map, replicate, refl, sym, ap, ◌∙◌, subst, arith, length-append}
 use Rattle.std.proofs.lemmas.List.{length-map, length-take-le, length-replicate}
 use Rattle.std.proofs.lemmas.List.Elements.{filter-append, recursion_from_All}
 use Rattle.std.proofs.lemmas.List.Sums.{sum_by-append, sum_by-cons}
 use Rattle.std.proofs.lemmas.List.Folds.{list_any-append}
-use Rattle.std.proofs.lemmas.Bool.{le-leb, lt-ltb, le-ltb}
+use Rattle.std.proofs.lemmas.Bool.{lt-ltb, le-ltb}
 use Rattle.std.specs.List.{AllByRecursion, filter, list_any, sum_by}
 use Rattle.image.specs.declared.image.Segment.{Segment}
 use Rattle.image.specs.Addresses.{has}
 use Rattle.image.specs.Rooms.{greatest, least}
-use Rattle.image.specs.Wanted.{HasItsPlace, segment_end, meets, NoneMeet, is_code, is_code_at, span_of_code, FitsWideRoom}
+use Rattle.image.specs.Wanted.{HasItsPlace, segment_end, meets, NoneMeet, is_code, is_code_at, span_of_code}
 use Rattle.elf_writer.specs.Wanted.{CanBeWritten}
 use Rattle.code_text.specs.KeptPlaces.{code_start, table_start}
 use Rattle.laid_image.specs.NewImage.{whole_pages, in_pages, as_data, own_segment, words_bytes, own_segments, new_segments, FitsSourceRoom, HasNewRoom}
-use Rattle.laid_image.proofs.Lists.{each_weaker, each_append, each_both, each_map}
+use Rattle.laid_image.proofs.Lists.{each_weaker, each_append, each_map}
 
 -- ---- an old segment as data
 and_false : (b : Bool) → (b && false) ≡ false
@@ -114,12 +114,19 @@ module _ (size : ℕ) (code words : List ℕ) (room : HasNewRoom size code words
   }
 
   own_places : AllByRecursion HasItsPlace (own_segments size code words)
-  own_places =
-      (code_place,
-      (table_place,
-      (zeros_place 0x75000000 0x800 refl (omega arith) (omega arith) (omega arith),
-      (zeros_place 0x76000000 0x3000 refl (omega arith) (omega arith) (omega arith),
-      (zeros_place 0x79000000 0x3000 refl (omega arith) (omega arith) (omega arith), tt)))))
+  own_places = (
+    code_place,
+    (
+      table_place,
+      (
+        zeros_place 0x75000000 0x800 refl (omega arith) (omega arith) (omega arith),
+        (
+          zeros_place 0x76000000 0x3000 refl (omega arith) (omega arith) (omega arith),
+          (zeros_place 0x79000000 0x3000 refl (omega arith) (omega arith) (omega arith), tt),
+        ),
+      ),
+    ),
+  )
 
   -- ---- no two meet
   ends_before : (s t : Segment) → segment_end s ≤ t.start → meets s t ≡ false
@@ -140,24 +147,40 @@ module _ (size : ℕ) (code words : List ℕ) (room : HasNewRoom size code words
       let table_one : Segment = own_segment table_start (whole_pages (4 * length words)) 4 (in_pages (words_bytes words)) in
       let cells : Segment = own_segment 0x75000000 0x800000 6 [] in
       let variables : Segment = own_segment 0x76000000 0x3000000 6 [] in
-      let frames : Segment = own_segment 0x79000000 0x3000000 6 [] in
-      ((ends_before code_one table_one code_end,
-      (ends_before code_one cells (omega (arith, code_end)),
-      (ends_before code_one variables (omega (arith, code_end)),
-      (ends_before code_one frames (omega (arith, code_end)), tt)))),
-      ((ends_before table_one cells table_end,
-      (ends_before table_one variables (omega (arith, table_end)),
-      (ends_before table_one frames (omega (arith, table_end)), tt))),
-      ((ends_before cells variables (omega arith), (ends_before cells frames (omega arith), tt)),
-      ((ends_before variables frames (omega arith), tt), (tt, tt)))))
+      let frames : Segment = own_segment 0x79000000 0x3000000 6 [] in (
+        (
+          ends_before code_one table_one code_end,
+          (
+            ends_before code_one cells (omega (arith, code_end)),
+            (
+              ends_before code_one variables (omega (arith, code_end)),
+              (ends_before code_one frames (omega (arith, code_end)), tt),
+            ),
+          ),
+        ),
+        (
+          (
+            ends_before table_one cells table_end,
+            (
+              ends_before table_one variables (omega (arith, table_end)),
+              (ends_before table_one frames (omega (arith, table_end)), tt),
+            ),
+          ),
+          (
+            (ends_before cells variables (omega arith), (ends_before cells frames (omega arith), tt)),
+            ((ends_before variables frames (omega arith), tt), (tt, tt)),
+          ),
+        ),
+      )
 
   data_apart : (old : List Segment) → NoneMeet old → AllByRecursion (λ (s : Segment). segment_end s ≤ 0x50000000) old → NoneMeet (map as_data old ++ own_segments size code words)
   data_apart [] apart to = own_apart
-  data_apart (s ∷ ss) apart to =
-      (each_append (λ (t : Segment). meets s t ≡ false) (map as_data ss) (own_segments size code words)
-      (each_map as_data (λ (t : Segment). meets s t ≡ false) ss apart.0)
-      (each_weaker (λ (t : Segment). code_start ≤ t.start) (λ (t : Segment). meets s t ≡ false) (λ t h. let end = to.0 in ends_before s t (omega (arith, h, end))) (own_segments size code words) own_starts),
-      data_apart ss apart.1 to.1)
+  data_apart (s ∷ ss) apart to = (
+    each_append (λ (t : Segment). meets s t ≡ false) (map as_data ss) (own_segments size code words)
+        (each_map as_data (λ (t : Segment). meets s t ≡ false) ss apart.0)
+        (each_weaker (λ (t : Segment). code_start ≤ t.start) (λ (t : Segment). meets s t ≡ false) (λ t h. let end = to.0 in ends_before s t (omega (arith, h, end))) (own_segments size code words) own_starts),
+    data_apart ss apart.1 to.1,
+  )
 
   -- ---- the code is the first of the own ones
   entered : list_any (is_code_at code_start) (own_segments size code words) ≡ true

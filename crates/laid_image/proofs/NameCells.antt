@@ -1,7 +1,6 @@
 -- What stands at an address once each name stands in its cell.
-use Rattle.std.proofs.Common.{◌≡◌, ◌≢◌, ◌⊎◌, ℕ, zero, suc, ◌+◌, ◌-◌, ◌%◌, ◌<◌, ◌≤◌, List, [], ◌∷◌, length, get_or, All, Option, Some, None, inl, inr, ⊎_elim, refl, sym, ap, ◌∙◌, subst, add-suc, arith}
-use Rattle.std.proofs.lemmas.Option.{slice_get-get_or}
-use Rattle.std.specs.List.{AllByRecursion, slice_get}
+use Rattle.std.proofs.Common.{◌≡◌, ◌≢◌, ◌⊎◌, ℕ, zero, suc, ◌+◌, ◌-◌, ◌<◌, ◌≤◌, List, [], ◌∷◌, length, get_or, inl, inr, refl, sym, ap, ◌∙◌, subst, arith}
+use Rattle.std.specs.List.{AllByRecursion}
 use Rattle.x86_values.specs.declared.byte.Byte.{Byte}
 use Rattle.x86_values.specs.declared.byte.Byte.TheVariants.{Unspecified}
 use Rattle.x86_values.specs.declared.word.Word.{Word}
@@ -10,7 +9,7 @@ use Rattle.memory.specs.Memory.{Memory, wrapped, with_byte, put_all}
 use Rattle.memory.specs.MemoryLaws.{MemoryLaws}
 use Rattle.x86_meaning.specs.Run.{first_registers}
 use Rattle.named_code.specs.declared.placed.Home.{Home}
-use Rattle.named_code.specs.Items.{cell_or, cell_of}
+use Rattle.named_code.specs.Items.{cell_of}
 use Rattle.named_code.specs.CodeRun.{with_cells_from}
 
 -- ---- a word at a place

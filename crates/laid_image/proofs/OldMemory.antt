@@ -1,13 +1,12 @@
 -- The memory of the old segments.
-use Rattle.std.proofs.Common.{◌≡◌, ◌⊎◌, ℕ, ◌+◌, ◌-◌, ◌<◌, ◌≤◌, Bool, true, false, cond, List, [], ◌∷◌, length, get_or, find, All, Option, Some, None, inl, inr, refl, sym, ap, ◌∙◌, subst, arith}
+use Rattle.std.proofs.Common.{◌≡◌, ◌⊎◌, ℕ, ◌-◌, ◌<◌, ◌≤◌, Bool, true, false, cond, List, [], ◌∷◌, length, get_or, find, All, Option, Some, None, inl, inr, ap, subst, arith}
 use Rattle.std.proofs.lemmas.List.{get_or_past}
 use Rattle.std.proofs.lemmas.List.Elements.{recursion_from_All}
 use Rattle.std.proofs.lemmas.Option.{same_Some}
 use Rattle.std.specs.List.{AllByRecursion}
 use Rattle.std.specs.Option.{option_map}
 use Rattle.image.specs.declared.image.Segment.{Segment}
-use Rattle.image.specs.declared.image.Image.{Image}
-use Rattle.image.specs.Addresses.{holds, segment_at, segment_byte, byte_at}
+use Rattle.image.specs.Addresses.{holds, segment_at, segment_byte}
 use Rattle.image.specs.Wanted.{image_with}
 use Rattle.memory.specs.Memory.{HasBytes, place_in, memory_of}
 use Rattle.memory.specs.MemoryLaws.{MemoryLaws}

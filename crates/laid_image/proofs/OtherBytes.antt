@@ -1,11 +1,9 @@
 -- Other bytes in the same pages have their places too.
-use Rattle.std.proofs.Common.{◌≡◌, ℕ, ◌+◌, ◌-◌, ◌%◌, ◌≤◌, ◌||◌, Bool, true, false, cond, List, [], ◌∷◌, length, map, All, refl, sym, ap, ◌∙◌, subst, arith}
+use Rattle.std.proofs.Common.{◌≡◌, ℕ, ◌+◌, ◌%◌, ◌≤◌, ◌||◌, Bool, true, false, cond, List, [], ◌∷◌, length, map, refl, sym, ap, ◌∙◌, subst, arith}
 use Rattle.std.proofs.lemmas.List.Elements.{All-from_recursion, recursion_from_All}
 use Rattle.std.proofs.lemmas.List.Sums.{sum_by-cons}
 use Rattle.std.specs.List.{AllByRecursion, filter, list_any, sum_by}
 use Rattle.image.specs.declared.image.Segment.{Segment}
-use Rattle.image.specs.Addresses.{holds}
-use Rattle.image.specs.Rooms.{greatest, least}
 use Rattle.image.specs.Wanted.{HasItsPlace, segment_end, meets, NoneMeet, is_code, is_code_at, span_of_code}
 use Rattle.laid_image.specs.NewImage.{PagesOf, pages_of, FitsSourceRoom, HasPagesOf}
 use Rattle.laid_image.proofs.Lists.{each_weaker, each_both, each_map, each_mapped}

@@ -1,5 +1,5 @@
 -- The table of a written file is that of the places.
-use Rattle.std.proofs.Common.{◌≡◌, ℕ, ◌+◌, ◌-◌, ◌*◌, ◌%◌, ◌<◌, ◌≤◌, ◌&&◌, ◌||◌, true, false, leb, ltb, List, [], ◌∷◌, ◌++◌, length, take, replicate, get_or, Some, refl, sym, ap, ◌∙◌, subst, arith}
+use Rattle.std.proofs.Common.{◌≡◌, ℕ, ◌+◌, ◌-◌, ◌*◌, ◌<◌, ◌≤◌, true, false, List, ◌++◌, length, take, replicate, get_or, Some, refl, sym, ap, ◌∙◌, subst, arith}
 use Rattle.std.proofs.lemmas.List.{length-take-le, get_or-take, get_or_append_left}
 use Rattle.std.proofs.lemmas.List.Concat.{get_or-flat_map}
 use Rattle.std.proofs.lemmas.Bool.{lt-leb, le-ltb}
@@ -9,7 +9,7 @@ use Rattle.x86_values.specs.declared.byte.Byte.TheVariants.{Known}
 use Rattle.x86_values.specs.Words.{word_of, word_list}
 use Rattle.image.specs.declared.image.Segment.{Segment}
 use Rattle.memory.specs.Memory.{Place, Memory, Load, wrapped, allows_all, bytes_at, place_in, memory_of}
-use Rattle.private_memory.specs.PrivateArea.{is_unreserved, lies_beside}
+use Rattle.private_memory.specs.PrivateArea.{is_unreserved}
 use Rattle.laid_code.specs.Laid.{Places}
 use Rattle.laid_code.specs.LaidRun.{HasAddressTable}
 use Rattle.code_text.specs.KeptPlaces.{table_start, AreTableWords}

@@ -1,5 +1,5 @@
 -- What holds of the image of a written file. All of this is own.
-use Rattle.std.specs.Prelude.{◌≡◌, ℕ, ◌+◌, ◌*◌, ◌%◌, ◌<◌, ◌≤◌, List, length, All, None, slice_index, Option, Some, slice_get}
+use Rattle.std.specs.Prelude.{◌≡◌, ℕ, ◌%◌, ◌<◌, List, length, All, None, slice_get}
 use Rattle.std.specs.Option.{option_map_or}
 use Rattle.image.specs.declared.image.Segment.{Segment}
 use Rattle.image.specs.Wanted.{image_with}
