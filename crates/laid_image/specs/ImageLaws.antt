@@ -1,5 +1,5 @@
 -- What holds of the image of a written file. All of this is own.
-use Rattle.std.specs.Prelude.{◌≡◌, ℕ, ◌+◌, ◌*◌, ◌%◌, ◌<◌, ◌≤◌, List, length, All, None, slice_index, Option, Some, slice_get}
+use Rattle.std.specs.Prelude.{◌≡◌, ℕ, ◌%◌, ◌<◌, List, length, All, None, slice_get}
 use Rattle.std.specs.Option.{option_map_or}
 use Rattle.image.specs.declared.image.Segment.{Segment}
 use Rattle.image.specs.Wanted.{image_with}
@@ -48,4 +48,4 @@ pub record ImageLaws : Type 0 where
   pub program : (old : List Segment) (entry : ℕ) → FitsSourceRoom old entry → IsOfProgram (memory_of (image_with old entry))
   pub bytes : (old : List Segment) (entry : ℕ) → HoldsBytes old → HasBytes (memory_of (image_with old entry))
   -- other bytes in the same pages
-  pub data : (old data : List Segment) (entry : ℕ) → FitsSourceRoom old entry → HasPagesOf old data → FitsSourceRoom data entry
+  pub other_bytes : (old others : List Segment) (entry : ℕ) → FitsSourceRoom old entry → HasPagesOf old others → FitsSourceRoom others entry

@@ -70,7 +70,7 @@ PagesOf = ℕ × (ℕ × Perm)
 abbrev pub pages_of : Segment → PagesOf
 pages_of s = (s.start, (s.size, s.perm))
 
-pub record HasPagesOf (segments data : List Segment) : Type 0 where
-  pub pages : map pages_of data ≡ map pages_of segments
-  pub bytes_in_pages : All (λ s. length s.bytes % 4096 ≡ 0) data
-  pub within : All (λ s. length s.bytes ≤ s.size) data
+pub record HasPagesOf (segments others : List Segment) : Type 0 where
+  pub pages : map pages_of others ≡ map pages_of segments
+  pub bytes_in_pages : All (λ s. length s.bytes % 4096 ≡ 0) others
+  pub within : All (λ s. length s.bytes ≤ s.size) others

@@ -1,7 +1,6 @@
 // The laws of the image of a written file.
 ghost use Rattle.laid_image.specs.ImageLaws.{ImageLaws};
 
-use byte_lists::little_endian_laws;
 use memory::memory_laws;
 use x86_code::code_laws;
 
@@ -10,7 +9,6 @@ use x86_code::code_laws;
 pub fn image_laws()
     ensures { ImageLaws }
 {
-    little_endian_laws();
     memory_laws();
     code_laws();
 }
