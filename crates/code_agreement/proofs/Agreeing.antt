@@ -95,7 +95,7 @@ module _ (given : Given) where
   -- ---- one program
   module _ (x : Layers) (layers : AreLayers x) (esp0 : ℕ) (stack : List ℕ) (left : Environment) (start : IsStart esp0 stack) (env : IsEnvironment left) where
     abbrev old : Memory
-    old = x.data
+    old = x.old_memory
 
     abbrev usual : Memory
     usual = with_private esp0 old

@@ -27,7 +27,7 @@ use Rattle.laid_code.specs.Beginning.{Begins, CanBegin}
 pub record Layers : Type 0 where
   pub image : Image
   -- the memory with which the program begins, without the stack, which needn't be that of the image
-  pub data : Memory
+  pub old_memory : Memory
   pub found : FoundContents
   pub unit : CodeUnit
   pub lowered : CodeUnit
@@ -41,8 +41,8 @@ pub record Layers : Type 0 where
 
 -- each layer keeps what is promised of it, and a turn of the laid code takes at most 4,096 steps
 pub record AreLayers (x : Layers) : Type 0 where
-  pub program : IsOfProgram x.data
-  pub bytes : HasBytes x.data
+  pub program : IsOfProgram x.old_memory
+  pub bytes : HasBytes x.old_memory
   pub one_stack : IsOneStack (code_of x.image) x.found x.unit
   pub lowers : Lowers x.unit x.lowered
   pub chooses : Chooses x.lowered x.code
@@ -52,7 +52,7 @@ pub record AreLayers (x : Layers) : Type 0 where
   pub laid : IsLaid x.places x.new (placed_blocks x.placed)
   pub table : HasAddressTable x.places x.memory
   pub begins : Begins x.places x.new x.entry x.cell x.image.entry
-  pub can_begin : (esp0 : ℕ) → CanBegin x.placed.homes x.cell esp0 (with_private esp0 x.data) x.memory
+  pub can_begin : (esp0 : ℕ) → CanBegin x.placed.homes x.cell esp0 (with_private esp0 x.old_memory) x.memory
   pub rest : ℕ → ℕ
   pub bounded : BoundsCode (marks_of x.lowered) laid_steps rest 4096 (placed_blocks x.placed)
 
@@ -61,7 +61,7 @@ pub record AreLayers (x : Layers) : Type 0 where
 abbrev pub NewCodeAgrees : Layers → Type 0
 NewCodeAgrees x =
     (esp0 : ℕ) (stack : List ℕ) (left : Environment) → IsStart esp0 stack → IsEnvironment left →
-    Agree 4096 256 (cut_run_over (code_of x.image) x.found x.data x.image.entry esp0 stack left) (run_from x.new (start_over x.memory x.entry esp0 stack left))
+    Agree 4096 256 (cut_run_over (code_of x.image) x.found x.old_memory x.image.entry esp0 stack left) (run_from x.new (start_over x.memory x.entry esp0 stack left))
 
 abbrev pub AgreementLaw : Type 0
 AgreementLaw = (x : Layers) → AreLayers x → NewCodeAgrees x

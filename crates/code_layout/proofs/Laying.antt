@@ -64,3 +64,77 @@ module _ (placed : Placed) (image : Image) (can : CanBeLaid placed image) where
         some_words = omega (arith, all, one);
         few_words = omega (arith, all, span);
       }
+
+-- ---- the layout
+module _ (given : Given) (placed : Placed) (image : Image) (can : CanBeLaid placed image) (l : Places) (code words : List ℕ) where
+  abbrev cell : ℕ
+  cell = esp_cell placed.homes
+
+  abbrev parts : LaidParts
+  parts = record { places = l; code = code; words = words }
+
+  abbrev new_code : Code
+  new_code = code_of (new_image (old placed image can) (whole_pages (length code)) (in_pages code) words)
+
+  cell_low : (h : Option Home) → slice_get placed.homes 4 ≡ h → cell < 4294967296
+  cell_low None e = rw e (omega arith)
+  cell_low (Some h) e = rw e (let to = (held h e).to in omega (arith, to))
+    where
+      held : (h : Home) → slice_get placed.homes 4 ≡ Some h → IsCell h
+      held h e = All-slice_get IsCell placed.homes 4 h can.cells.cells e
+
+  module _ (is : code ≡ code_text l code_start cell image.entry (blocks placed image can)) (few : length code ≤ blocks_most (blocks placed image can) + 40)
+           (placed_there : ArePlacesOf (blocks placed image can) cell (span_start image.segments) (span_of_code image.segments) l) (table : AreTableWords l words) where
+    spelled : AreSpelled (blocks placed image can)
+    spelled = given.spelled placed can.form
+
+    room : HasNewRoom (whole_pages (length code)) (in_pages code) words
+    room = new_room placed image can code words (subst (λ (c : List ℕ). 2 ≤ length c) (sym is) (some_text l code_start cell image.entry (blocks placed image can))) few (table.all ∙ placed_there.count)
+
+    stands : HasBytesFrom new_code code_start (code ++ zeros_behind code)
+    stands = subst (HasBytesFrom new_code code_start) (bytes_then_zeros code) (given.image.code image.segments image.entry code words can.source room)
+
+    both : IsLaid l new_code (blocks placed image can) × Begins l new_code code_start cell image.entry
+    both =
+        let most = can.few in
+        let span = can.source.span in
+        let first = spans_fit placed image can in
+        let from = placed_there.span in
+        let count = placed_there.count in
+        let at = placed_there.table in
+        let long : length (code_text l code_start cell image.entry (blocks placed image can)) ≡ length code = ap length (sym is) in
+        given.laid l new_code code_start cell image.entry (blocks placed image can) (zeros_behind code)
+        (subst (λ (c : List ℕ). HasBytesFrom new_code code_start (c ++ zeros_behind code)) is stands)
+        placed_there.places spelled
+        (subst (λ (n : ℕ). AreInSpan n l.count (blocks placed image can)) (sym from) (subst (λ (n : ℕ). AreInSpan (span_start image.segments) n (blocks placed image can)) (sym count) can.in_span))
+        (omega (arith, long, few, most)) (omega (arith, first, from, count)) (omega (arith, at, count, span)) (cell_low (slice_get placed.homes 4) refl)
+        (given.image.none image.segments image.entry (whole_pages (length code)) (in_pages code) words can.source room)
+
+    begins_over : (others : List Segment) (held : List ℕ) → HasPagesOf image.segments others → HoldsBytes others → length held % 4096 ≡ 0 → length held ≤ whole_pages (length code) → All (λ b. b < 256) held → BeginsOver placed image.entry parts others held
+    begins_over others held pages bytes whole within small =
+        let fits = given.image.other_bytes image.segments others image.entry can.source pages in
+        let held_room : HasNewRoom (whole_pages (length code)) held words = record { pages = room.pages; some = room.some; few = room.few; code_pages = whole; within = within; some_words = room.some_words; few_words = room.few_words } in
+        record {
+          table = given.image.table others image.entry (whole_pages (length code)) held words l fits held_room placed_there.table table both.0.addresses_fit;
+          can_begin = λ esp0. given.image.begins others image.entry (whole_pages (length code)) held words placed.homes esp0 fits held_room bytes small can.cells;
+        }
+
+    pub laid_out : IsLaidOut placed image parts new_code
+    laid_out = record {
+      layable = given.layable placed can.form can.once;
+      laid = both.0;
+      begins = both.1;
+      span = placed_there.span;
+      count = placed_there.count;
+      words = table;
+      over = begins_over;
+    }
+
+    pub is_layout : (layout : Layout) → layout.segments ≡ laid_segments image.segments parts → layout.entry ≡ code_start → IsLayoutOf placed image layout
+    is_layout layout same start = record {
+      parts = parts;
+      is = same;
+      entry = start;
+      can_be_written = rw (same, start) (given.image.can_be_written image.segments image.entry (whole_pages (length code)) (in_pages code) words can.source room);
+      laid = rw (same, start) laid_out;
+    }

@@ -50,11 +50,11 @@ laid_segments old x = new_segments old (code_size x) (in_pages x.code) x.words
 
 -- with which memory the laid code can begin, over other bytes in the pages of the old segments, whatever is held where the code stands
 abbrev pub held_memory : List Segment → List ℕ → LaidParts → Memory
-held_memory data held x = memory_of (new_image data (code_size x) held x.words)
+held_memory others held x = memory_of (new_image others (code_size x) held x.words)
 
-pub record BeginsOver (placed : Placed) (entry : ℕ) (x : LaidParts) (data : List Segment) (held : List ℕ) : Type 0 where
-  pub table : HasAddressTable x.places (held_memory data held x)
-  pub can_begin : (esp0 : ℕ) → CanBegin placed.homes (esp_cell placed.homes) esp0 (with_private esp0 (memory_of (image_with data entry))) (held_memory data held x)
+pub record BeginsOver (placed : Placed) (entry : ℕ) (x : LaidParts) (others : List Segment) (held : List ℕ) : Type 0 where
+  pub table : HasAddressTable x.places (held_memory others held x)
+  pub can_begin : (esp0 : ℕ) → CanBegin placed.homes (esp_cell placed.homes) esp0 (with_private esp0 (memory_of (image_with others entry))) (held_memory others held x)
 
 pub record IsLaidOut (placed : Placed) (image : Image) (x : LaidParts) (code : Code) : Type 0 where
   pub layable : AreLayable (placed_blocks placed)
@@ -64,7 +64,7 @@ pub record IsLaidOut (placed : Placed) (image : Image) (x : LaidParts) (code : C
   pub span : x.places.span ≡ span_start image.segments
   pub count : x.places.count ≡ span_of_code image.segments
   pub words : AreTableWords x.places x.words
-  pub over : (data : List Segment) (held : List ℕ) → HasPagesOf image.segments data → HoldsBytes data → length held % 4096 ≡ 0 → length held ≤ code_size x → All (λ b. b < 256) held → BeginsOver placed image.entry x data held
+  pub over : (others : List Segment) (held : List ℕ) → HasPagesOf image.segments others → HoldsBytes others → length held % 4096 ≡ 0 → length held ≤ code_size x → All (λ b. b < 256) held → BeginsOver placed image.entry x others held
 
 pub record IsLayoutOf (placed : Placed) (image : Image) (layout : Layout) : Type 0 where
   pub parts : LaidParts
