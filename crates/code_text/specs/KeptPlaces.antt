@@ -1,5 +1,5 @@
 -- How the places of blocks are kept: a map of numbers, and a word for each old address of the span. All of this is own.
-use Rattle.std.specs.Prelude.{◌≡◌, ℕ, ◌+◌, ◌-◌, ◌<◌, ◌||◌, cond, leb, ltb, List, length, slice_index}
+use Rattle.std.specs.Prelude.{◌≡◌, ℕ, ◌+◌, ◌-◌, ◌<◌, ◌||◌, ◌==◌, cond, leb, ltb, List, length, slice_index}
 use Rattle.std.specs.Option.{unwrap_or}
 use Rattle.std.specs.Ordering.{nat_cmp}
 use Rattle.std.specs.BTreeMap.{get}
@@ -42,3 +42,15 @@ pub record AreTableWords (l : Places) (words : List ℕ) : Type 0 where
 -- placed code in form has spellings
 abbrev pub FormIsSpelled : Type 0
 FormIsSpelled = (p : Placed) → IsPlacedInForm p → AreSpelled (placed_blocks p)
+
+-- ---- as they are added, one block after the other
+-- the place that was there, or else this; 0 is none
+abbrev pub first_place : ℕ → ℕ → ℕ
+first_place p q = cond (p == 0) q p
+
+pub record HasNoPlaces (span count stop : ℕ) (p : CodePlaces) : Type 0 where
+  pub numbers : (n : ℕ) → (places_in p).by_number n ≡ 0
+  pub addresses : (a : ℕ) → (places_in p).by_address a ≡ 0
+  pub span : p.span ≡ span
+  pub count : length p.words.items ≡ count
+  pub stop : p.stop ≡ stop

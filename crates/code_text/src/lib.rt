@@ -6,5 +6,5 @@ mod places;
 mod text;
 
 pub use laws::{form_laws, layout_laws};
-pub use places::{CodePlaces, places_of};
-pub use text::{code_text, has_room};
+pub use places::CodePlaces;
+pub use text::code_text;
