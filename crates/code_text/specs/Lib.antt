@@ -1,3 +1,4 @@
 pub mod Texts
 pub mod Placing
 pub mod KeptPlaces
+pub mod TableJump

@@ -1,6 +1,7 @@
 //! Laid code as bytes.
 #![tactic(auto)]
 
+mod instrs;
 mod laws;
 mod places;
 mod text;
