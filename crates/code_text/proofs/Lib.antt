@@ -2,3 +2,5 @@ pub mod Standing
 mod Texts
 mod Blocks
 pub mod LaidText
+pub mod InstrSizes
+pub mod FormTexts

@@ -4,6 +4,7 @@
 mod instrs;
 mod laws;
 mod places;
+mod sizes;
 mod text;
 
 pub use laws::{form_laws, layout_laws};
