@@ -4,3 +4,4 @@ mod Blocks
 pub mod LaidText
 pub mod InstrSizes
 pub mod FormTexts
+pub mod Walking

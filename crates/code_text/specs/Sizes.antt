@@ -1,9 +1,10 @@
 -- What holds of the sizes of instructions. All of this is own.
-use Rattle.std.specs.Prelude.{◌≡◌, ℕ, ◌+◌, ◌<◌, ◌≤◌, length}
+use Rattle.std.specs.Prelude.{◌≡◌, ℕ, ◌+◌, ◌<◌, ◌≤◌, List, length, All}
 use Rattle.x86_types.specs.declared.instr.Instr.{Instr}
 use Rattle.x86_types.specs.declared.instr.Instr.TheVariants as instr
 use Rattle.x86_grammar.specs.Fields.{HasSpelling}
 use Rattle.x86_encode.specs.Choice.{best, best_wide}
+use Rattle.named_code.specs.Items.{Item}
 use Rattle.laid_code.specs.Laid.{Places}
 use Rattle.code_text.specs.KeptPlaces.{table_start, sized}
 use Rattle.code_text.specs.Placing.{instr_size, most_bytes}
@@ -15,6 +16,9 @@ IsPlain (instr.Jmp n) = ⊥
 IsPlain (instr.Jcc c n) = ⊥
 IsPlain (instr.JmpTo to) = ⊥
 IsPlain i = Unit {0}
+
+abbrev pub AreItemsSpelled : List Item → Type 0
+AreItemsSpelled items = All (λ (x : Item). HasSpelling x.instr) items
 
 pub record HasFields (l : Places) : Type 0 where
   pub span : l.span < 4294967296

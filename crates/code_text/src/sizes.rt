@@ -1,12 +1,16 @@
 // How many bytes items have.
-ghost use Rattle.std.specs.Prelude.{◌≡◌, ◌+◌, ◌≤◌, length};
+ghost use Rattle.std.specs.Prelude.{◌≡◌, ◌+◌, ◌≤◌, ◌<◌, All, leb, length, map};
 ghost use Rattle.x86_types.specs.declared.instr.Instr.TheVariants.{JmpTo};
 ghost use Rattle.x86_grammar.specs.Fields.{HasSpelling};
 ghost use Rattle.x86_encode.specs.Choice.{best};
-ghost use Rattle.code_text.specs.KeptPlaces.{sized};
-ghost use Rattle.code_text.specs.Placing.{instr_size, most_bytes};
+ghost use Rattle.named_code.specs.Items.{placed_blocks, placed_item};
+ghost use Rattle.code_text.specs.KeptPlaces.{room_left, sized};
+ghost use Rattle.code_text.specs.Placing.{AreSpelled, blocks_most, instr_size, items_most, items_size, most_bytes};
+ghost use Rattle.code_text.specs.Sizes.{AreItemsSpelled};
 
-use crate::instrs::{compare_count, enter, less_span, look_up, take_address};
+use crate::instrs::{compare_count, enter, instr_of, less_span, look_up, take_address};
+use crate::laws::size_laws;
+use named_code::{Home, PInstr, Placed};
 use x86_encode::{encode, encode_wide};
 use x86_types::{Instr, Rm};
 
@@ -21,6 +25,7 @@ fn best_size(instr: &Instr) -> u32
 }
 
 // How many bytes a jump to an old address has.
+#[tactic(auto, using(crate::proofs::InstrSizes::table_parts))]
 fn table_size(span: u32, count: u32, to: Rm) -> u32
     requires { HasSpelling (JmpTo to) }
     ensures size { result ≡ instr_size (sized span count) (JmpTo to) }
@@ -36,6 +41,7 @@ pub(crate) fn instr_size(span: u32, count: u32, instr: &Instr) -> u32
     ensures size { result ≡ instr_size (sized span count) instr.now }
     ensures short { result ≤ most_bytes instr.now }
 {
+    size_laws();
     match *instr {
         Instr::Jmp { .. } => 5,
         Instr::Jcc { .. } => 6,
@@ -55,4 +61,50 @@ pub(crate) fn most_bytes(instr: &Instr) -> u32
     }
     let mut text = [0; 16];
     encode_wide(instr, &mut text) as u32
+}
+
+/// How many bytes items have, with the stop behind the last.
+pub(crate) fn items_size(homes: &[Home], items: &[PInstr], span: u32, count: u32) -> u32
+    requires spelled { AreItemsSpelled (map (placed_item homes.now) items.now) }
+    requires few { items_most (map (placed_item homes.now) items.now) ≤ 335000000 }
+    ensures size { result ≡ items_size (sized span count) (map (placed_item homes.now) items.now) }
+    ensures few { result ≤ items_most (map (placed_item homes.now) items.now) }
+{
+    let mut size = 0;
+    for item in items {
+        size += instr_size(span, count, &instr_of(homes, item));
+    }
+    size + 2
+}
+
+// What is left of room for so many bytes behind items, where it is enough.
+fn room_behind(homes: &[Home], items: &[PInstr], room: u32) -> Option<u32>
+    requires { AreItemsSpelled (map (placed_item homes.now) items.now) }
+    ensures { result ≡ room_left (items_most (map (placed_item homes.now) items.now)) room }
+{
+    let mut left = room;
+    for item in items {
+        let most = most_bytes(&instr_of(homes, item));
+        if left < most {
+            return None;
+        }
+        left -= most;
+    }
+    if left < 2 { None } else { Some(left - 2) }
+}
+
+/// Whether the blocks of placed code have room: 335,000,000 bytes at most, whatever their places are, where a jump to an old address
+/// counts 128.
+pub fn has_room(placed: &Placed) -> bool
+    requires spelled { AreSpelled (placed_blocks placed.now) }
+    ensures { result ≡ leb (blocks_most (placed_blocks placed.now)) 335000000 }
+{
+    let mut left = 335_000_000;
+    for block in placed.blocks.as_slice() {
+        match room_behind(placed.homes.as_slice(), block.code.as_slice(), left) {
+            Some(rest) => left = rest,
+            None => return false,
+        }
+    }
+    true
 }
