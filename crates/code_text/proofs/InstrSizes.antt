@@ -11,9 +11,10 @@ use Rattle.x86_types.specs.declared.instr.Instr.TheVariants as instr
 use Rattle.x86_grammar.specs.Fields.{HasSpelling}
 use Rattle.x86_encode.specs.Choice.{best, best_wide}
 use Rattle.laid_code.specs.Laid.{Places}
+use Rattle.laid_code.specs.Beginning.{esp_to}
 use Rattle.code_text.specs.KeptPlaces.{table_start, sized}
-use Rattle.code_text.specs.TableJump.{take_address, less_span, compare_count, look_up, enter}
-use Rattle.code_text.specs.Texts.{instr_text, before_test, behind_test}
+use Rattle.code_text.specs.TableJump.{take_address, less_span, compare_count, look_up, enter, clear_esp}
+use Rattle.code_text.specs.Texts.{instr_text, before_test, behind_test, stores_text}
 use Rattle.code_text.specs.Placing.{instr_size, most_bytes}
 use Rattle.code_text.specs.Sizes.{IsPlain, HasFields, SizeLaws}
 use Rattle.code_text.proofs.Standing.{Given}
@@ -48,6 +49,13 @@ table_parts span count to =
     let before' = length-append (best (less_span span)) (best (compare_count count)) in
     let behind = length-append (best look_up) (best enter) in
     omega (arith, before, before', behind)
+
+-- the beginning
+pub stores_parts : (cell : ℕ) → length (stores_text cell) ≡ length (best (esp_to 0x75000000)) + length (best (esp_to cell)) + length (best clear_esp)
+stores_parts cell =
+    let whole = length-append (best (esp_to 0x75000000)) (best (esp_to cell) ++ best clear_esp) in
+    let rest = length-append (best (esp_to cell)) (best clear_esp) in
+    omega (arith, whole, rest)
 
 same_size : (l : Places) (i : Instr) → l.table ≡ table_start → instr_size l i ≡ instr_size (sized l.span l.count) i
 unfolding instr_size

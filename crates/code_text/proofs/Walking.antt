@@ -1,6 +1,7 @@
 -- Placed code, one item and one block after the other.
-use Rattle.std.proofs.Common.{◌≡◌, ℕ, ◌+◌, ◌-◌, ◌<◌, ◌≤◌, List, [], ◌∷◌, All, map, get_or, drop, length, refl, sym, ap, ◌∙◌, subst, arith}
+use Rattle.std.proofs.Common.{◌≡◌, ℕ, ◌+◌, ◌-◌, ◌<◌, ◌≤◌, Bool, true, false, cond, leb, Some, None, List, [], ◌∷◌, All, map, get_or, drop, length, refl, sym, ap, ◌∙◌, subst, arith}
 use Rattle.std.specs.List.{sum_by}
+use Rattle.std.proofs.lemmas.Bool.{leb-true, leb-false}
 use Rattle.std.proofs.lemmas.List.{drop_more, drop_all, get_or-map, length-map}
 use Rattle.std.proofs.lemmas.List.Elements.{All-get_or}
 use Rattle.std.proofs.lemmas.List.Sums.{sum_by-cons}
@@ -11,6 +12,7 @@ use Rattle.named_code.specs.declared.placed.PInstr.{PInstr}
 use Rattle.named_code.specs.declared.placed.PBlock.{PBlock}
 use Rattle.named_code.specs.Items.{Item, CodeBlock, placed_item, placed_block}
 use Rattle.laid_code.specs.Laid.{Places}
+use Rattle.code_text.specs.KeptPlaces.{room_left}
 use Rattle.code_text.specs.Placing.{instr_size, items_size, most_bytes, items_most, blocks_most}
 use Rattle.code_text.specs.Sizes.{AreItemsSpelled}
 
@@ -106,3 +108,35 @@ module _ (homes : List Home) (blocks : List PBlock) where
     pub blocks_most_more : blocks_most (blocks_from i) ≡ items_most block_here.items + blocks_most (blocks_from (i + 1))
     unfolding blocks_most
     blocks_most_more = ap blocks_most blocks_more ∙ sum_by-cons (λ (b : CodeBlock). items_most b.items) block_here (blocks_from (i + 1))
+
+    -- what the blocks' room is with one more, or that it is too small
+    pub room_step : (items : List Item) (room left first whole : ℕ) → items ≡ block_here.items → items_most items ≤ left → first ≡ left - items_most items → blocks_most (blocks_from i) + room ≡ left + whole → blocks_most (blocks_from (i + 1)) + room ≡ first + whole
+    room_step items room left first whole is enough rest h =
+        let more = blocks_most_more in
+        let own = ap items_most is in
+        omega (arith, more, own, enough, rest, h)
+
+    pub room_over : (items : List Item) (room left whole : ℕ) → items ≡ block_here.items → left < items_most items → blocks_most (blocks_from i) + room ≡ left + whole → room < whole
+    room_over items room left whole is over h =
+        let more = blocks_most_more in
+        let own = ap items_most is in
+        omega (arith, more, own, over, h)
+
+-- the items of a block that was read
+pub items_read : (homes : List Home) (blocks : List PBlock) (items : List PInstr) (i : ℕ) (b : PBlock) → b ≡ get_or blocks i b → items ≡ b.code → map (placed_item homes) items ≡ (placed_block homes (get_or blocks i b)).items
+items_read homes blocks items i b read is = ap (map (placed_item homes)) (is ∙ ap (λ (x : PBlock). x.code) read)
+
+-- ---- room
+pub room_enough : (n room left : ℕ) → Some left ≡ room_left n room → (n ≤ room) × (left ≡ room - n)
+room_enough n room left h = by (leb n room) refl
+  where
+    by : (b : Bool) → leb n room ≡ b → (n ≤ room) × (left ≡ room - n)
+    by true is = let same : Some left ≡ Some (room - n) = h ∙ ap (λ t. cond t (Some (room - n)) None) is in (leb-true n room is, cc same)
+    by false is = let none : Some left ≡ None = h ∙ ap (λ t. cond t (Some (room - n)) None) is in absurd (cc none)
+
+pub room_none : (n room : ℕ) → None ≡ room_left n room → room < n
+room_none n room h = by (leb n room) refl
+  where
+    by : (b : Bool) → leb n room ≡ b → room < n
+    by true is = let some : None ≡ Some (room - n) = h ∙ ap (λ t. cond t (Some (room - n)) None) is in absurd (cc some)
+    by false is = leb-false n room is

@@ -1,5 +1,5 @@
 -- How the places of blocks are kept: a map of numbers, and a word for each old address of the span. All of this is own.
-use Rattle.std.specs.Prelude.{◌≡◌, ℕ, ◌+◌, ◌-◌, ◌<◌, ◌||◌, ◌==◌, cond, leb, ltb, List, length, slice_index, Option, Some, None}
+use Rattle.std.specs.Prelude.{◌≡◌, ℕ, ◌+◌, ◌-◌, ◌<◌, ◌||◌, ◌==◌, ◌&&◌, not, cond, leb, ltb, List, length, slice_index, Option, Some, None}
 use Rattle.std.specs.Option.{unwrap_or}
 use Rattle.std.specs.Ordering.{nat_cmp}
 use Rattle.std.specs.BTreeMap.{get}
@@ -8,7 +8,7 @@ use Rattle.named_code.specs.Items.{CodeBlock, placed_blocks}
 use Rattle.named_code.specs.PlacedForm.{IsPlacedInForm}
 use Rattle.laid_code.specs.Laid.{Places}
 use Rattle.code_text.specs.declared.places.CodePlaces.{CodePlaces}
-use Rattle.code_text.specs.Placing.{PlacesFrom, AreSpelled}
+use Rattle.code_text.specs.Placing.{PlacesFrom, AreSpelled, numbered_from, addressed_from}
 
 -- where new code begins, and where the address table does
 abbrev pub code_start : ℕ
@@ -55,9 +55,25 @@ pub record HasNoPlaces (from many place : ℕ) (p : CodePlaces) : Type 0 where
   pub count : length p.words.items ≡ many
   pub stop : p.stop ≡ place
 
+-- a block is added
+pub record AddsPlace (old new : Places) (number at place : ℕ) : Type 0 where
+  pub numbers : (n : ℕ) → new.by_number n ≡ first_place (old.by_number n) (cond (number == n) place 0)
+  pub addresses : (a : ℕ) → new.by_address a ≡ first_place (old.by_address a) (cond (not (a == 0) && (at == a)) place 0)
+  pub span : new.span ≡ old.span
+  pub count : new.count ≡ old.count
+  pub stop : new.stop ≡ old.stop
+
 -- ---- what sizes hang on: the span and the table
 abbrev pub sized : ℕ → ℕ → Places
 sized span count = record { by_number = λ n. 0; by_address = λ a. 0; stop = 0; table = table_start; span = span; count = count }
+
+-- blocks are added, from a place on
+pub record GoesOn (old new : Places) (q : ℕ) (blocks : List CodeBlock) : Type 0 where
+  pub numbers : (n : ℕ) → new.by_number n ≡ first_place (old.by_number n) (numbered_from (sized old.span old.count) q n blocks)
+  pub addresses : (a : ℕ) → new.by_address a ≡ first_place (old.by_address a) (addressed_from (sized old.span old.count) q a blocks)
+  pub span : new.span ≡ old.span
+  pub count : new.count ≡ old.count
+  pub stop : new.stop ≡ old.stop
 
 -- what is left of room for some bytes, where it is enough
 abbrev pub room_left : ℕ → ℕ → Option ℕ

@@ -17,7 +17,7 @@ pub struct CodePlaces {
 impl CodePlaces {
     ghost use Rattle.std.specs.Prelude.{◌≡◌, ◌≤◌, ◌<◌, ◌+◌, ◌==◌, ◌&&◌, ℕ, not, cond, length, IfOk, OnOk};
     ghost use Rattle.laid_code.specs.Laid.{place_of_old};
-    ghost use Rattle.code_text.specs.KeptPlaces.{AreTableWords, HasNoPlaces, first_place, places_in};
+    ghost use Rattle.code_text.specs.KeptPlaces.{AddsPlace, AreTableWords, HasNoPlaces, first_place, places_in};
 
     /// The word of the address table for each address of the span, in order: the place of its block, or 0.
     pub fn words(&self) -> &[u32]
@@ -70,6 +70,39 @@ impl CodePlaces {
         if self.words[index] == 0 {
             self.words[index] = place;
         }
+    }
+
+    /// Keeps the place of a block for its number and its old address, where they have none.
+    pub(crate) fn add(&mut self, number: u32, at: u32, place: u32) -> Result<(), AllocError>
+        requires { (at ≡ 0 → ⊥) → (self.old.span ≤ at) × (at < self.old.span + length self.old.words.items) }
+        ensures { OnOk result (AddsPlace (places_in self.old) (places_in self.new) number at place) }
+    {
+        self.add_number(number, place)?;
+        if at != 0 {
+            self.add_address(at, place);
+        }
+        Ok(())
+    }
+
+    /// The first old address of the span.
+    pub(crate) fn span(&self) -> u32
+        ensures { result ≡ (places_in self.now).span }
+    {
+        self.span
+    }
+
+    /// How many old addresses the span has.
+    pub(crate) fn count(&self) -> u32
+        ensures { result ≡ (places_in self.now).count }
+    {
+        self.words.len() as u32
+    }
+
+    /// The place of the stop behind the beginning.
+    pub(crate) fn stop(&self) -> u32
+        ensures { result ≡ (places_in self.now).stop }
+    {
+        self.stop
     }
 
     /// The place of the block of a number, and 0 where there is none.

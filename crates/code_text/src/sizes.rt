@@ -3,14 +3,15 @@ ghost use Rattle.std.specs.Prelude.{◌≡◌, ◌+◌, ◌≤◌, ◌<◌, All,
 ghost use Rattle.x86_types.specs.declared.instr.Instr.TheVariants.{JmpTo};
 ghost use Rattle.x86_grammar.specs.Fields.{HasSpelling};
 ghost use Rattle.x86_encode.specs.Choice.{best};
-ghost use Rattle.named_code.specs.Items.{placed_blocks, placed_item};
+ghost use Rattle.named_code.specs.Items.{placed_block, placed_blocks, placed_item};
 ghost use Rattle.code_text.specs.KeptPlaces.{room_left, sized};
 ghost use Rattle.code_text.specs.Placing.{AreSpelled, blocks_most, instr_size, items_most, items_size, most_bytes};
 ghost use Rattle.code_text.specs.Sizes.{AreItemsSpelled};
+ghost use Rattle.code_text.specs.Texts.{stores_text};
 
-use crate::instrs::{compare_count, enter, instr_of, less_span, look_up, take_address};
+use crate::instrs::{clear_esp, compare_count, enter, instr_of, less_span, look_up, store_esp, take_address};
 use crate::laws::size_laws;
-use named_code::{Home, PInstr, Placed};
+use named_code::{Home, PBlock, PInstr, Placed};
 use x86_encode::{encode, encode_wide};
 use x86_types::{Instr, Rm};
 
@@ -63,6 +64,15 @@ pub(crate) fn most_bytes(instr: &Instr) -> u32
     encode_wide(instr, &mut text) as u32
 }
 
+/// How many bytes the beginning has up to its jump.
+#[tactic(auto, using(crate::proofs::InstrSizes::stores_parts))]
+pub(crate) fn stores_size(cell: u32) -> u32
+    ensures size { result ≡ length (stores_text cell) }
+    ensures short { result ≤ 33 }
+{
+    best_size(&store_esp(0x7500_0000)) + best_size(&store_esp(cell)) + best_size(&clear_esp())
+}
+
 /// How many bytes items have, with the stop behind the last.
 pub(crate) fn items_size(homes: &[Home], items: &[PInstr], span: u32, count: u32) -> u32
     requires spelled { AreItemsSpelled (map (placed_item homes.now) items.now) }
@@ -93,18 +103,26 @@ fn room_behind(homes: &[Home], items: &[PInstr], room: u32) -> Option<u32>
     if left < 2 { None } else { Some(left - 2) }
 }
 
+// Whether blocks have so much room.
+fn have_room(homes: &[Home], blocks: &[PBlock], room: u32) -> bool
+    requires { AreSpelled (map (placed_block homes.now) blocks.now) }
+    ensures { result ≡ leb (blocks_most (map (placed_block homes.now) blocks.now)) room }
+{
+    let mut left = room;
+    for block in blocks {
+        match room_behind(homes, block.code.as_slice(), left) {
+            Some(rest) => left = rest,
+            None => return false,
+        }
+    }
+    true
+}
+
 /// Whether the blocks of placed code have room: 335,000,000 bytes at most, whatever their places are, where a jump to an old address
 /// counts 128.
 pub fn has_room(placed: &Placed) -> bool
     requires spelled { AreSpelled (placed_blocks placed.now) }
     ensures { result ≡ leb (blocks_most (placed_blocks placed.now)) 335000000 }
 {
-    let mut left = 335_000_000;
-    for block in placed.blocks.as_slice() {
-        match room_behind(placed.homes.as_slice(), block.code.as_slice(), left) {
-            Some(rest) => left = rest,
-            None => return false,
-        }
-    }
-    true
+    have_room(placed.homes.as_slice(), placed.blocks.as_slice(), 335_000_000)
 }
