@@ -85,11 +85,22 @@ module _ (given : Given) where
   most_size l (instr.JmpTo to) f h = subst (λ n. n ≤ 128) (sym (same_size l (instr.JmpTo to) f.table)) (most_table l.span l.count to f.span f.count h)
   most_size l i f h = let same = ap length (given.best_is.same i refl) in omega (arith, same)
 
+  before_short : (l : Places) (to : Rm) → HasFields l → HasSpelling (instr.JmpTo to) → length (before_test l to) ≤ 33
+  before_short l to f h =
+      let fits : (l.span < 4294967296) × (l.count < 4294967296) × (l.table < 4294967296) = (f.span, f.count, omega (arith, f.table)) in
+      let whole = length-append (best (take_address to)) (best (less_span l.span) ++ best (compare_count l.count)) in
+      let rest = length-append (best (less_span l.span)) (best (compare_count l.count)) in
+      let one = given.best_is.short (take_address to) (takes_spelled given l fits to h) in
+      let two = given.best_is.short (less_span l.span) (sub_spelled given l fits) in
+      let three = given.best_is.short (compare_count l.count) (cmp_spelled given l fits) in
+      omega (arith, whole, rest, one, two, three)
+
   pub size_laws : SizeLaws
   size_laws = record {
     texts = instr_length given;
     same = same_size;
     most = most_size;
+    before = before_short;
     plain_text = plain_text;
     plain_size = plain_size;
   }

@@ -5,3 +5,5 @@ pub mod LaidText
 pub mod InstrSizes
 pub mod FormTexts
 pub mod Walking
+pub mod Adding
+pub mod Pushed

@@ -13,7 +13,7 @@ use Rattle.named_code.specs.declared.placed.PBlock.{PBlock}
 use Rattle.named_code.specs.Items.{Item, CodeBlock, placed_item, placed_block}
 use Rattle.laid_code.specs.Laid.{Places}
 use Rattle.code_text.specs.KeptPlaces.{room_left}
-use Rattle.code_text.specs.Placing.{instr_size, items_size, most_bytes, items_most, blocks_most}
+use Rattle.code_text.specs.Placing.{instr_size, items_size, most_bytes, items_most, blocks_most, AreInSpan}
 use Rattle.code_text.specs.Sizes.{AreItemsSpelled}
 
 -- ---- items, of which one is in turn
@@ -122,6 +122,22 @@ module _ (homes : List Home) (blocks : List PBlock) where
         let own = ap items_most is in
         omega (arith, more, own, over, h)
 
+    -- a place of so far, with its room behind it
+    pub low_here : (place : ℕ) → place + blocks_most (blocks_from i) < 4294967296 → items_most block_here.items < 4294967296
+    low_here place h = let more = blocks_most_more in omega (arith, more, h)
+
+    pub low_step : (items : List Item) (place size : ℕ) → items ≡ block_here.items → size ≤ items_most items → place + blocks_most (blocks_from i) < 4294967296 → place + size + blocks_most (blocks_from (i + 1)) < 4294967296
+    low_step items place size is own h =
+        let more = blocks_most_more in
+        let same = ap items_most is in
+        omega (arith, more, same, own, h)
+
+    pub low_size : (items : List Item) (place size : ℕ) → items ≡ block_here.items → size ≤ items_most items → place + blocks_most (blocks_from i) < 4294967296 → place + size < 4294967296
+    low_size items place size is own h =
+        let more = blocks_most_more in
+        let same = ap items_most is in
+        omega (arith, more, same, own, h)
+
 -- the items of a block that was read
 pub items_read : (homes : List Home) (blocks : List PBlock) (items : List PInstr) (i : ℕ) (b : PBlock) → b ≡ get_or blocks i b → items ≡ b.code → map (placed_item homes) items ≡ (placed_block homes (get_or blocks i b)).items
 items_read homes blocks items i b read is = ap (map (placed_item homes)) (is ∙ ap (λ (x : PBlock). x.code) read)
@@ -140,3 +156,11 @@ room_none n room h = by (leb n room) refl
     by : (b : Bool) → leb n room ≡ b → room < n
     by true is = let some : None ≡ Some (room - n) = h ∙ ap (λ t. cond t (Some (room - n)) None) is in absurd (cc some)
     by false is = leb-false n room is
+
+-- ---- the old address of a block that was read lies in the span
+pub span_read : (before now : Places) (homes : List Home) (blocks : List PBlock) (i : ℕ) (b : PBlock) → i < length blocks → AreInSpan before.span before.count (map (placed_block homes) blocks) → b ≡ get_or blocks i b → now.span ≡ before.span → now.count ≡ before.count → (b.at ≡ 0 → ⊥)
+    → (now.span ≤ b.at) × (b.at < now.span + now.count)
+span_read before now homes blocks i b low all read span count some =
+    let at : b.at ≡ (get_or blocks i b).at = ap (λ (x : PBlock). x.at) read in
+    let got = block_holds homes blocks i b low (λ (x : CodeBlock). (x.at ≡ 0 → ⊥) → (before.span ≤ x.at) × (x.at < before.span + before.count)) all (λ z. some (at ∙ z)) in
+    (omega (arith, got.0, at, span), omega (arith, got.1, at, span, count))

@@ -1,5 +1,6 @@
 -- What holds of the sizes of instructions. All of this is own.
 use Rattle.std.specs.Prelude.{◌≡◌, ℕ, ◌+◌, ◌<◌, ◌≤◌, List, length, All}
+use Rattle.x86_types.specs.declared.operand.Rm.{Rm}
 use Rattle.x86_types.specs.declared.instr.Instr.{Instr}
 use Rattle.x86_types.specs.declared.instr.Instr.TheVariants as instr
 use Rattle.x86_grammar.specs.Fields.{HasSpelling}
@@ -8,7 +9,7 @@ use Rattle.named_code.specs.Items.{Item}
 use Rattle.laid_code.specs.Laid.{Places}
 use Rattle.code_text.specs.KeptPlaces.{table_start, sized}
 use Rattle.code_text.specs.Placing.{instr_size, most_bytes}
-use Rattle.code_text.specs.Texts.{instr_text}
+use Rattle.code_text.specs.Texts.{before_test, instr_text}
 
 -- an instruction that is no jump but a call or a return
 abbrev pub IsPlain : Instr → Type 0
@@ -31,6 +32,7 @@ pub record SizeLaws : Type 0 where
   pub same : (l : Places) (i : Instr) → l.table ≡ table_start → instr_size l i ≡ instr_size (sized l.span l.count) i
   -- and is at most this
   pub most : (l : Places) (i : Instr) → HasFields l → HasSpelling i → instr_size l i ≤ most_bytes i
+  pub before : (l : Places) (to : Rm) → HasFields l → HasSpelling (instr.JmpTo to) → length (before_test l to) ≤ 33
   -- other instructions than jumps have their best spellings
   pub plain_text : (l : Places) (q : ℕ) (i : Instr) → IsPlain i → instr_text l q i ≡ best i
   pub plain_size : (l : Places) (i : Instr) → IsPlain i → instr_size l i ≡ length (best i)

@@ -18,6 +18,7 @@ impl CodePlaces {
     ghost use Rattle.std.specs.Prelude.{◌≡◌, ◌≤◌, ◌<◌, ◌+◌, ◌==◌, ◌&&◌, ℕ, not, cond, length, IfOk, OnOk};
     ghost use Rattle.laid_code.specs.Laid.{place_of_old};
     ghost use Rattle.code_text.specs.KeptPlaces.{AddsPlace, AreTableWords, HasNoPlaces, first_place, places_in};
+    ghost use Rattle.code_text.specs.Sizes.{HasFields};
 
     /// The word of the address table for each address of the span, in order: the place of its block, or 0.
     pub fn words(&self) -> &[u32]
@@ -82,6 +83,13 @@ impl CodePlaces {
             self.add_address(at, place);
         }
         Ok(())
+    }
+
+    /// Its clause says that the span is one of words, and where the table lies.
+    pub(crate) fn has_fields(&self)
+        ensures { HasFields (places_in self.now) }
+    {
+        let _span = self.span;
     }
 
     /// The first old address of the span.

@@ -4,6 +4,7 @@ ghost use Rattle.named_code.specs.Items.{placed_block, placed_blocks};
 ghost use Rattle.code_text.specs.KeptPlaces.{ArePlacesOf, GoesOn, places_in};
 ghost use Rattle.code_text.specs.Placing.{AreInSpan, AreSpelled, blocks_most};
 
+use crate::laws::size_laws;
 use crate::places::CodePlaces;
 use crate::sizes::{items_size, stores_size};
 use named_code::{Home, PBlock, Placed};
@@ -48,6 +49,7 @@ pub fn places_of(
     requires fits { span + count < 4294967296 }
     ensures { IfOk result (λ places. ArePlacesOf (placed_blocks placed.now) cell span count (places_in places)) }
 {
+    size_laws();
     let stop = 0x6000_0000 + stores_size(cell) + 5;
     let mut places = CodePlaces::new(alloc, span, count, stop)?;
     add_blocks(&mut places, placed.homes.as_slice(), placed.blocks.as_slice(), stop + 2)?;

@@ -68,8 +68,7 @@ fn push_jcc(out: &mut Vec<u8>, cond: Cond, to: u32) -> Result<(), AllocError>
 // Puts what stands before the test of a jump to an old address behind the text.
 fn push_before_test(out: &mut Vec<u8>, places: &CodePlaces, to: Rm) -> Result<(), AllocError>
     requires { HasSpelling (JmpTo to) }
-    ensures text { OnOk result (out.new.items ≡ out.old.items ++ before_test (places_in places.now) to) }
-    ensures short { OnOk result (length out.new.items ≤ length out.old.items + 33) }
+    ensures { OnOk result (out.new.items ≡ out.old.items ++ before_test (places_in places.now) to) }
 {
     push_best(out, &take_address(to))?;
     push_best(out, &less_span(places.span()))?;
@@ -82,6 +81,8 @@ fn push_table(out: &mut Vec<u8>, places: &CodePlaces, to: Rm) -> Result<(), Allo
     requires few { length out.old.items ≤ 350000000 }
     ensures { OnOk result (out.new.items ≡ out.old.items ++ table_text (places_in places.now) (place_behind out.old.items) to) }
 {
+    size_laws();
+    places.has_fields();
     push_before_test(out, places, to)?;
     push_jcc(out, Cond::Ae, places.stop())?;
     push_best(out, &look_up())?;
@@ -100,6 +101,7 @@ pub(crate) fn push_instr(
     ensures short { OnOk result (length out.new.items ≤ length out.old.items + most_bytes instr.now) }
 {
     size_laws();
+    places.has_fields();
     match *instr {
         Instr::Jmp { by } => push_jmp(out, places.numbered(by)),
         Instr::Jcc { cond, by } => push_jcc(out, cond, places.numbered(by)),

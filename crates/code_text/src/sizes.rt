@@ -76,7 +76,7 @@ pub(crate) fn stores_size(cell: u32) -> u32
 /// How many bytes items have, with the stop behind the last.
 pub(crate) fn items_size(homes: &[Home], items: &[PInstr], span: u32, count: u32) -> u32
     requires spelled { AreItemsSpelled (map (placed_item homes.now) items.now) }
-    requires few { items_most (map (placed_item homes.now) items.now) ≤ 335000000 }
+    requires few { items_most (map (placed_item homes.now) items.now) < 4294967296 }
     ensures size { result ≡ items_size (sized span count) (map (placed_item homes.now) items.now) }
     ensures few { result ≤ items_most (map (placed_item homes.now) items.now) }
 {
