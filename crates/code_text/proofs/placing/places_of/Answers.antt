@@ -6,4 +6,7 @@ use Rattle.code_text.proofs.Adding.{placed_all}
 use Rattle.code_text.proofs.placing.places_of.Goals as goal
 
 pub returns : goal.returns
-returns c = let a = c.in_ok-new.ensures in let b = c.in_ok-add_blocks.ensures in let d = c.as_slice.ensures in ?
+returns c =
+    let blocks = ap₂ (λ homes bs. map (placed_block homes) bs) c.as_slice.ensures c.as_slice-2.ensures in
+    let at : 1610612736 + c.stores_size.result + 5 ≡ code_start + length (stores_text c.args.cell) + 5 = omega (arith, c.stores_size.ensures.size) in
+    let a = c.in_ok-places.ensures in let b = c.in_ok-add_blocks.ensures in let d = blocks in ?

@@ -22,7 +22,7 @@ returns-in-Jcc c =
     let l = places_in c.args.places.now in
     let out = c.args.out.now.items in
     let q = place_behind out in
-    let text = on_ok_weaker c.push_jcc.result (λ e. e ∙ ap (λ (t : List ℕ). out ++ t) (jcc_text l q c.in-Jcc.cond c.in-Jcc.by c.numbered.result c.args.instr.now c.in-Jcc.is c.numbered.ensures)) c.push_jcc.ensures in
+    let text = on_ok_weaker c.push_jcc.result (λ e. e ∙ ap (λ (t : List ℕ). out ++ t) (jcc_text l q c.in-Jcc.cond c.in-Jcc.by c.numbered-in-Jcc.result c.args.instr.now c.in-Jcc.is c.numbered-in-Jcc.ensures)) c.push_jcc.ensures in
     record { text = text; short = on_ok_weaker c.push_jcc.result (pushed_short c.size_laws.ensures l c.args.instr.now q out c.push_jcc.new.out.items c.has_fields.ensures c.requires.spelled) text }
 
 pub returns-in-JmpTo : goal.returns-in-JmpTo
