@@ -95,12 +95,22 @@ module _ (given : Given) where
       let three = given.best_is.short (compare_count l.count) (cmp_spelled given l fits) in
       omega (arith, whole, rest, one, two, three)
 
+  stores_short : (cell : ℕ) → cell < 4294967296 → length (stores_text cell) ≤ 33
+  stores_short cell low =
+      let parts = stores_parts cell in
+      let one = given.best_is.short (esp_to 0x75000000) ((given.fit (esp_to 0x75000000)).0 refl) in
+      let two = given.best_is.short (esp_to cell) ((given.fit (esp_to cell)).0 (lt-ltb cell 4294967296 low)) in
+      let three = given.best_is.short clear_esp ((given.fit clear_esp).0 refl) in
+      omega (arith, parts, one, two, three)
+
   pub size_laws : SizeLaws
   size_laws = record {
     texts = instr_length given;
     same = same_size;
     most = most_size;
     before = before_short;
+    stores = stores_short;
+    jump = λ to q. given.lengths.jmp _;
     plain_text = plain_text;
     plain_size = plain_size;
   }

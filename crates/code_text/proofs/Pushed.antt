@@ -1,6 +1,7 @@
 -- Texts of instructions, one behind the other.
-use Rattle.std.proofs.Common.{◌≡◌, ℕ, ◌+◌, ◌<◌, ◌≤◌, List, [], ◌∷◌, ◌++◌, length, refl, sym, ap, ap₂, ◌∙◌, subst, append_assoc, arith}
-use Rattle.std.proofs.lemmas.List.{length-append}
+use Rattle.std.proofs.Common.{◌≡◌, ℕ, ◌+◌, ◌<◌, ◌≤◌, cond, Ok, Err, Result, List, [], ◌∷◌, ◌++◌, get_or, length, refl, sym, ap, ap₂, ◌∙◌, subst, append_assoc, arith}
+use Rattle.std.specs.Result.{is_ok, OnOk}
+use Rattle.std.proofs.lemmas.List.{length-append, append-nil}
 use Rattle.x86_types.specs.declared.operand.Rm.{Rm}
 use Rattle.x86_types.specs.declared.operation.Cond.{Cond}
 use Rattle.x86_types.specs.declared.operation.Cond.TheVariants as condition
@@ -8,13 +9,18 @@ use Rattle.x86_types.specs.declared.instr.Instr.{Instr}
 use Rattle.x86_types.specs.declared.instr.Instr.TheVariants as instr
 use Rattle.x86_grammar.specs.Fields.{HasSpelling}
 use Rattle.x86_encode.specs.Choice.{best}
+use Rattle.named_code.specs.declared.placed.Home.{Home}
+use Rattle.named_code.specs.declared.placed.PInstr.{PInstr}
+use Rattle.named_code.specs.declared.placed.PBlock.{PBlock}
+use Rattle.named_code.specs.Items.{Item, placed_item, placed_block}
 use Rattle.laid_code.specs.Laid.{Places}
 use Rattle.code_text.specs.declared.places.CodePlaces.{CodePlaces}
 use Rattle.code_text.specs.KeptPlaces.{places_in, place_behind}
 use Rattle.code_text.specs.TableJump.{look_up, enter}
 use Rattle.code_text.specs.Placing.{most_bytes}
-use Rattle.code_text.specs.Texts.{jump_text, before_test, table_text, instr_text}
+use Rattle.code_text.specs.Texts.{stop, jump_text, before_test, table_text, instr_text, items_text, blocks_text, stores_text}
 use Rattle.code_text.specs.Sizes.{HasFields, SizeLaws}
+use Rattle.code_text.proofs.Walking.{items_from, items_more, items_end, blocks_from, blocks_more, blocks_end}
 
 -- the place behind a text that goes on
 pub place_more : (out t : List ℕ) → place_behind (out ++ t) ≡ place_behind out + length t
@@ -55,3 +61,53 @@ jcc_text l q c n to i is there = ap (λ t. jump_text (instr.Jcc c) 6 t q) there 
 pub to_text : (l : Places) (q : ℕ) (to : Rm) (i : Instr) → i ≡ instr.JmpTo to → table_text l q to ≡ instr_text l q i
 unfolding instr_text
 to_text l q to i is = sym (ap (instr_text l q) is)
+
+-- how long the beginning is
+pub beginning_short : (laws : SizeLaws) (cell to : ℕ) (a b d : List ℕ) → cell < 4294967296 → a ≡ [] ++ stores_text cell → b ≡ a ++ jump_text instr.Jmp 5 to (place_behind a) → d ≡ b ++ stop → length d ≤ 40
+beginning_short laws cell to a b d low a_is b_is d_is =
+    let stores = laws.stores cell low in
+    let jump = laws.jump to (place_behind a) in
+    let first = ap length a_is in
+    let second = ap length b_is ∙ length-append a (jump_text instr.Jmp 5 to (place_behind a)) in
+    let third = ap length d_is ∙ length-append b stop in
+    omega (arith, stores, jump, first, second, third)
+
+-- ---- a text that goes on with an item, or with a block
+module _ (homes : List Home) (items : List PInstr) (l : Places) where
+  pub items_done : (i : ℕ) (out whole : List ℕ) → length items ≤ i → out ++ items_text l (place_behind out) (items_from homes items i) ≡ whole → out ++ stop ≡ whole
+  unfolding items_text
+  items_done i out whole past h = ap (λ xs. out ++ items_text l (place_behind out) xs) (sym (items_end homes items i past)) ∙ h
+
+  pub items_go_on : (i : ℕ) (d : PInstr) (r : Instr) (out new whole : List ℕ) → i < length items → r ≡ (placed_item homes (get_or items i d)).instr → new ≡ out ++ instr_text l (place_behind out) r → out ++ items_text l (place_behind out) (items_from homes items i) ≡ whole
+      → new ++ items_text l (place_behind new) (items_from homes items (i + 1)) ≡ whole
+  unfolding items_text
+  items_go_on i d r out new whole low is text h =
+      let q = place_behind out in
+      let here = (placed_item homes (get_or items i d)).instr in
+      let t = instr_text l q here in
+      let rest = items_from homes items (i + 1) in
+      let new_is : new ≡ out ++ t = text ∙ ap (λ (x : Instr). out ++ instr_text l q x) is in
+      let at : place_behind new ≡ q + length t = ap place_behind new_is ∙ place_more out t in
+      ap₂ (λ u n. u ++ items_text l n rest) new_is at ∙ (append_assoc out t (items_text l (q + length t) rest) ∙ (ap (λ xs. out ++ items_text l q xs) (sym (items_more homes items i d low)) ∙ h))
+
+module _ (homes : List Home) (blocks : List PBlock) (l : Places) where
+  pub blocks_done : (i : ℕ) (out whole : List ℕ) → length blocks ≤ i → out ++ blocks_text l (place_behind out) (blocks_from homes blocks i) ≡ whole → out ≡ whole
+  unfolding blocks_text
+  blocks_done i out whole past h = sym (append-nil out) ∙ (ap (λ bs. out ++ blocks_text l (place_behind out) bs) (sym (blocks_end homes blocks i past)) ∙ h)
+
+  pub blocks_go_on : (i : ℕ) (b : PBlock) (items : List Item) (out new whole : List ℕ) → i < length blocks → items ≡ (placed_block homes (get_or blocks i b)).items → new ≡ out ++ items_text l (place_behind out) items → out ++ blocks_text l (place_behind out) (blocks_from homes blocks i) ≡ whole
+      → new ++ blocks_text l (place_behind new) (blocks_from homes blocks (i + 1)) ≡ whole
+  unfolding blocks_text
+  blocks_go_on i b items out new whole low is text h =
+      let q = place_behind out in
+      let here = (placed_block homes (get_or blocks i b)).items in
+      let t = items_text l q here in
+      let rest = blocks_from homes blocks (i + 1) in
+      let new_is : new ≡ out ++ t = text ∙ ap (λ xs. out ++ items_text l q xs) is in
+      let at : place_behind new ≡ q + length t = ap place_behind new_is ∙ place_more out t in
+      ap₂ (λ u n. u ++ blocks_text l n rest) new_is at ∙ (append_assoc out t (blocks_text l (q + length t) rest) ∙ (ap (λ bs. out ++ blocks_text l q bs) (sym (blocks_more homes blocks i b low)) ∙ h))
+
+-- what a last call gives, where it returns Ok
+pub on_ok_if : {T E : Type 0} (r : Result T E) (s t u whole : List ℕ) → s ≡ cond (is_ok r) t u → t ≡ whole → OnOk r (s ≡ whole)
+on_ok_if (Ok x) s t u whole is all = is ∙ all
+on_ok_if (Err e) s t u whole is all = tt

@@ -67,6 +67,12 @@ module _ (homes : List Home) (items : List PInstr) where
         let own' = subst (λ (x : Instr). s ≤ most_bytes x) is own in
         omega (arith, more, own', h)
 
+    pub size_step_up : (r : Instr) (size new room : ℕ) → r ≡ here.instr → new ≤ size + most_bytes r → size + items_most (items_from i) ≤ room → new + items_most (items_from (i + 1)) ≤ room
+    size_step_up r size new room is short h =
+        let more = most_more in
+        let short' = subst (λ (x : Instr). new ≤ size + most_bytes x) is short in
+        omega (arith, more, short', h)
+
     -- room that is taken by one more
     pub taken_step : (r : Instr) (m room left whole : ℕ) → r ≡ here.instr → m ≡ most_bytes r → m ≤ left → items_most (items_from i) + room ≡ left + whole → items_most (items_from (i + 1)) + room ≡ left - m + whole
     taken_step r m room left whole is own enough h =
@@ -121,6 +127,19 @@ module _ (homes : List Home) (blocks : List PBlock) where
         let more = blocks_most_more in
         let own = ap items_most is in
         omega (arith, more, own, over, h)
+
+    -- a text of so far, with its room behind it
+    pub room_here : (items : List Item) (size first whole most : ℕ) → items ≡ block_here.items → size + blocks_most (blocks_from i) ≤ first + whole → first + whole ≤ most → size + items_most items ≤ most
+    room_here items size first whole most is h few =
+        let more = blocks_most_more in
+        let same = ap items_most is in
+        omega (arith, more, same, h, few)
+
+    pub room_step_up : (items : List Item) (size new room : ℕ) → items ≡ block_here.items → new ≤ size + items_most items → size + blocks_most (blocks_from i) ≤ room → new + blocks_most (blocks_from (i + 1)) ≤ room
+    room_step_up items size new room is short h =
+        let more = blocks_most_more in
+        let same = ap items_most is in
+        omega (arith, more, same, short, h)
 
     -- a place of so far, with its room behind it
     pub low_here : (place : ℕ) → place + blocks_most (blocks_from i) < 4294967296 → items_most block_here.items < 4294967296

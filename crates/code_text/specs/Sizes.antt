@@ -9,7 +9,7 @@ use Rattle.named_code.specs.Items.{Item}
 use Rattle.laid_code.specs.Laid.{Places}
 use Rattle.code_text.specs.KeptPlaces.{table_start, sized}
 use Rattle.code_text.specs.Placing.{instr_size, most_bytes}
-use Rattle.code_text.specs.Texts.{before_test, instr_text}
+use Rattle.code_text.specs.Texts.{before_test, instr_text, jump_text, stores_text}
 
 -- an instruction that is no jump but a call or a return
 abbrev pub IsPlain : Instr → Type 0
@@ -33,6 +33,9 @@ pub record SizeLaws : Type 0 where
   -- and is at most this
   pub most : (l : Places) (i : Instr) → HasFields l → HasSpelling i → instr_size l i ≤ most_bytes i
   pub before : (l : Places) (to : Rm) → HasFields l → HasSpelling (instr.JmpTo to) → length (before_test l to) ≤ 33
+  -- the beginning up to its jump, and the jump
+  pub stores : (cell : ℕ) → cell < 4294967296 → length (stores_text cell) ≤ 33
+  pub jump : (to q : ℕ) → length (jump_text instr.Jmp 5 to q) ≡ 5
   -- other instructions than jumps have their best spellings
   pub plain_text : (l : Places) (q : ℕ) (i : Instr) → IsPlain i → instr_text l q i ≡ best i
   pub plain_size : (l : Places) (i : Instr) → IsPlain i → instr_size l i ≡ length (best i)

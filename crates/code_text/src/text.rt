@@ -7,6 +7,7 @@ ghost use Rattle.code_text.specs.Sizes.{AreItemsSpelled};
 ghost use Rattle.code_text.specs.Texts.{beginning_text, blocks_text, code_text, items_text, stores_text};
 
 use crate::instrs::{clear_esp, instr_of, store_esp};
+use crate::laws::size_laws;
 use crate::places::CodePlaces;
 use crate::pushing::{push_best, push_instr, push_jmp};
 use named_code::{Home, PBlock, PInstr, Placed};
@@ -65,6 +66,7 @@ fn beginning(alloc: Global, places: &CodePlaces, cell: u32, entry: u32) -> Resul
     ensures text { IfOk result (λ text. text.items ≡ beginning_text (places_in places.now) code_start cell entry) }
     ensures short { IfOk result (λ text. length text.items ≤ 40) }
 {
+    size_laws();
     let mut out = Vec::new(alloc);
     push_stores(&mut out, cell)?;
     push_jmp(&mut out, places.old_address(entry))?;
