@@ -5,7 +5,7 @@ use Rattle.named_code.specs.Items.{Item, CodeBlock}
 use Rattle.laid_code.specs.Laid.{Places}
 use Rattle.code_text.specs.declared.places.CodePlaces.{CodePlaces}
 use Rattle.code_text.specs.KeptPlaces.{code_start, table_start, first_place, places_in, sized, HasNoPlaces, AddsPlace, GoesOn, ArePlacesOf}
-use Rattle.code_text.specs.Placing.{items_size, beginning_size, numbered_from, addressed_from, PlacesFrom}
+use Rattle.code_text.specs.Placing.{items_size, beginning_size, numbered_from, addressed_from}
 use Rattle.code_text.specs.Sizes.{SizeLaws}
 use Rattle.code_text.specs.Texts.{stores_text}
 

@@ -1,15 +1,13 @@
 -- The sizes of instructions.
-use Rattle.std.proofs.Common.{◌≡◌, ℕ, ◌+◌, ◌<◌, ◌≤◌, ◌++◌, true, length, refl, sym, ap, ◌∙◌, subst, arith}
+use Rattle.std.proofs.Common.{◌≡◌, ℕ, ◌+◌, ◌<◌, ◌≤◌, ◌++◌, length, refl, sym, ap, subst, arith}
 use Rattle.std.proofs.lemmas.Bool.{lt-ltb}
 use Rattle.std.proofs.lemmas.List.{length-append}
 use Rattle.x86_types.specs.declared.operand.Rm.{Rm}
-use Rattle.x86_types.specs.declared.operand.Rm.TheVariants as rm
-use Rattle.x86_types.specs.declared.operand.Src.TheVariants as src
 use Rattle.x86_types.specs.declared.operation.Cond.{Cond}
 use Rattle.x86_types.specs.declared.instr.Instr.{Instr}
 use Rattle.x86_types.specs.declared.instr.Instr.TheVariants as instr
 use Rattle.x86_grammar.specs.Fields.{HasSpelling}
-use Rattle.x86_encode.specs.Choice.{best, best_wide}
+use Rattle.x86_encode.specs.Choice.{best}
 use Rattle.laid_code.specs.Laid.{Places}
 use Rattle.laid_code.specs.Beginning.{esp_to}
 use Rattle.code_text.specs.KeptPlaces.{table_start, sized}

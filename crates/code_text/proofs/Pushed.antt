@@ -1,5 +1,5 @@
 -- Texts of instructions, one behind the other.
-use Rattle.std.proofs.Common.{◌≡◌, ℕ, ◌+◌, ◌<◌, ◌≤◌, cond, Ok, Err, Result, List, [], ◌∷◌, ◌++◌, get_or, length, refl, sym, ap, ap₂, ◌∙◌, subst, append_assoc, arith}
+use Rattle.std.proofs.Common.{◌≡◌, ℕ, ◌+◌, ◌<◌, ◌≤◌, cond, Ok, Err, Result, List, [], ◌++◌, get_or, length, sym, ap, ap₂, ◌∙◌, append_assoc, arith}
 use Rattle.std.specs.Result.{is_ok, OnOk}
 use Rattle.std.proofs.lemmas.List.{length-append, append-nil}
 use Rattle.x86_types.specs.declared.operand.Rm.{Rm}

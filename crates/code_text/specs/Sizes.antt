@@ -1,10 +1,10 @@
 -- What holds of the sizes of instructions. All of this is own.
-use Rattle.std.specs.Prelude.{◌≡◌, ℕ, ◌+◌, ◌<◌, ◌≤◌, List, length, All}
+use Rattle.std.specs.Prelude.{◌≡◌, ℕ, ◌<◌, ◌≤◌, List, length, All}
 use Rattle.x86_types.specs.declared.operand.Rm.{Rm}
 use Rattle.x86_types.specs.declared.instr.Instr.{Instr}
 use Rattle.x86_types.specs.declared.instr.Instr.TheVariants as instr
 use Rattle.x86_grammar.specs.Fields.{HasSpelling}
-use Rattle.x86_encode.specs.Choice.{best, best_wide}
+use Rattle.x86_encode.specs.Choice.{best}
 use Rattle.named_code.specs.Items.{Item}
 use Rattle.laid_code.specs.Laid.{Places}
 use Rattle.code_text.specs.KeptPlaces.{table_start, sized}

@@ -1,5 +1,5 @@
 -- The instructions of laid code that are none of the placed code's. All of this is own.
-use Rattle.std.specs.Prelude.{◌≡◌, ℕ, ◌+◌, ◌<◌, ◌≤◌, Some, None, length}
+use Rattle.std.specs.Prelude.{ℕ, Some, None}
 use Rattle.x86_types.specs.declared.operand.Reg.TheVariants.{Eax, Esp}
 use Rattle.x86_types.specs.declared.operand.Rm.{Rm}
 use Rattle.x86_types.specs.declared.operand.Rm.TheVariants as rm
@@ -8,11 +8,8 @@ use Rattle.x86_types.specs.declared.operation.AluOp.TheVariants as alu
 use Rattle.x86_types.specs.declared.width.Width.TheVariants.{Four}
 use Rattle.x86_types.specs.declared.instr.Instr.{Instr}
 use Rattle.x86_types.specs.declared.instr.Instr.TheVariants as instr
-use Rattle.x86_grammar.specs.Fields.{HasSpelling}
-use Rattle.laid_code.specs.Laid.{Places, eax, as_source}
+use Rattle.laid_code.specs.Laid.{eax, as_source}
 use Rattle.code_text.specs.KeptPlaces.{table_start}
-use Rattle.code_text.specs.Placing.{instr_size, items_size, most_bytes}
-use Rattle.code_text.specs.Texts.{instr_text}
 
 -- ---- a jump to an old address, without the jump to the stop
 abbrev pub take_address : Rm → Instr

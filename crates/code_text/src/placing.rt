@@ -52,6 +52,11 @@ pub fn places_of(
     size_laws();
     let stop = 0x6000_0000 + stores_size(cell) + 5;
     let mut places = CodePlaces::new(alloc, span, count, stop)?;
-    add_blocks(&mut places, placed.homes.as_slice(), placed.blocks.as_slice(), stop + 2)?;
+    add_blocks(
+        &mut places,
+        placed.homes.as_slice(),
+        placed.blocks.as_slice(),
+        stop + 2,
+    )?;
     Ok(places)
 }

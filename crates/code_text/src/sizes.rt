@@ -9,7 +9,9 @@ ghost use Rattle.code_text.specs.Placing.{AreSpelled, blocks_most, instr_size, i
 ghost use Rattle.code_text.specs.Sizes.{AreItemsSpelled};
 ghost use Rattle.code_text.specs.Texts.{stores_text};
 
-use crate::instrs::{clear_esp, compare_count, enter, instr_of, less_span, look_up, store_esp, take_address};
+use crate::instrs::{
+    clear_esp, compare_count, enter, instr_of, less_span, look_up, store_esp, take_address,
+};
 use crate::laws::size_laws;
 use named_code::{Home, PBlock, PInstr, Placed};
 use x86_encode::{encode, encode_wide};
@@ -32,7 +34,9 @@ fn table_size(span: u32, count: u32, to: Rm) -> u32
     ensures size { result ≡ instr_size (sized span count) (JmpTo to) }
     ensures short { result ≤ 61 }
 {
-    let before = best_size(&take_address(to)) + best_size(&less_span(span)) + best_size(&compare_count(count));
+    let before = best_size(&take_address(to))
+        + best_size(&less_span(span))
+        + best_size(&compare_count(count));
     before + 6 + best_size(&look_up()) + best_size(&enter())
 }
 
@@ -124,5 +128,9 @@ pub fn has_room(placed: &Placed) -> bool
     requires spelled { AreSpelled (placed_blocks placed.now) }
     ensures { result ≡ leb (blocks_most (placed_blocks placed.now)) 335000000 }
 {
-    have_room(placed.homes.as_slice(), placed.blocks.as_slice(), 335_000_000)
+    have_room(
+        placed.homes.as_slice(),
+        placed.blocks.as_slice(),
+        335_000_000,
+    )
 }

@@ -62,7 +62,12 @@ fn push_stores(out: &mut Vec<u8>, cell: u32) -> Result<(), AllocError>
 }
 
 // The beginning, which stores esp in a cell and jumps to the block of the entry.
-fn beginning(alloc: Global, places: &CodePlaces, cell: u32, entry: u32) -> Result<Vec<u8>, AllocError>
+fn beginning(
+    alloc: Global,
+    places: &CodePlaces,
+    cell: u32,
+    entry: u32,
+) -> Result<Vec<u8>, AllocError>
     ensures text { IfOk result (λ text. text.items ≡ beginning_text (places_in places.now) code_start cell entry) }
     ensures short { IfOk result (λ text. length text.items ≤ 40) }
 {
@@ -90,6 +95,11 @@ pub fn code_text(
     ensures few { IfOk result (λ text. length text.items ≤ blocks_most (placed_blocks placed.now) + 40) }
 {
     let mut out = beginning(alloc, places, cell, entry)?;
-    push_blocks(&mut out, places, placed.homes.as_slice(), placed.blocks.as_slice())?;
+    push_blocks(
+        &mut out,
+        places,
+        placed.homes.as_slice(),
+        placed.blocks.as_slice(),
+    )?;
     Ok(out)
 }

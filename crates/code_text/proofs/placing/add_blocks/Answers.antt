@@ -1,4 +1,4 @@
-use Rattle.std.proofs.Common.{ℕ, ◌≤◌, ◌<◌, ◌+◌, refl, sym, ap, ap₂, ◌∙◌, map, drop, get_or, subst, arith}
+use Rattle.std.proofs.Common.{◌+◌, sym, ap, ap₂, ◌∙◌, map, drop, get_or, subst, arith}
 use Rattle.named_code.specs.Items.{CodeBlock, placed_item, placed_block}
 use Rattle.named_code.specs.declared.placed.PBlock.{PBlock}
 use Rattle.code_text.specs.KeptPlaces.{places_in, sized, AddsPlace}

@@ -1,4 +1,4 @@
-use Rattle.std.proofs.Common.{◌≡◌, ◌+◌, ◌<◌, map, drop}
+use Rattle.std.proofs.Common.{◌+◌, ◌<◌, map, drop}
 use Rattle.named_code.specs.Items.{placed_block}
 use Rattle.code_text.specs.KeptPlaces.{places_in}
 use Rattle.code_text.specs.Placing.{blocks_most}

@@ -1,5 +1,5 @@
-use Rattle.std.proofs.Common.{◌≡◌, ◌+◌, List, ap₂, length, map, subst, arith}
-use Rattle.named_code.specs.Items.{CodeBlock, placed_block, placed_blocks}
+use Rattle.std.proofs.Common.{◌≡◌, ◌+◌, ap₂, length, map, subst, arith}
+use Rattle.named_code.specs.Items.{placed_block, placed_blocks}
 use Rattle.code_text.specs.KeptPlaces.{places_in, code_start, GoesOn}
 use Rattle.code_text.specs.Texts.{stores_text}
 use Rattle.code_text.proofs.Adding.{placed_all}

@@ -1,9 +1,6 @@
-use Rattle.std.proofs.Common.{◌++◌, List, ℕ, sym, ap, ◌∙◌, arith}
+use Rattle.std.proofs.Common.{◌++◌, List, ℕ, sym, ap, ◌∙◌}
 use Rattle.std.proofs.lemmas.Result.{on_ok_weaker}
-use Rattle.x86_types.specs.declared.instr.Instr.TheVariants as instr
-use Rattle.x86_encode.specs.Choice.{best}
 use Rattle.code_text.specs.KeptPlaces.{places_in, place_behind}
-use Rattle.code_text.specs.Texts.{jump_text, table_text, instr_text}
 use Rattle.code_text.proofs.InstrSizes.{plain_instr}
 use Rattle.code_text.proofs.Pushed.{pushed_short, jmp_text, jcc_text, to_text}
 use Rattle.code_text.proofs.pushing.push_instr.Goals as goal

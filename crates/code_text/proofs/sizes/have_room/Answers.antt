@@ -1,7 +1,7 @@
 use Rattle.std.proofs.Common.{arith, map, sym, subst}
 use Rattle.std.proofs.lemmas.Bool.{lt-leb, le-leb}
-use Rattle.named_code.specs.Items.{CodeBlock, placed_item, placed_block}
-use Rattle.code_text.specs.Placing.{items_most, blocks_most}
+use Rattle.named_code.specs.Items.{CodeBlock, placed_item}
+use Rattle.code_text.specs.Placing.{items_most}
 use Rattle.code_text.specs.Sizes.{AreItemsSpelled}
 use Rattle.code_text.proofs.Walking.{items_read, block_holds, room_step, room_over, room_enough, room_none, blocks_most_end}
 use Rattle.code_text.proofs.sizes.have_room.Goals as goal

@@ -1,7 +1,4 @@
 use Rattle.std.proofs.Common.{◌≤◌, sym, ap, ◌∙◌, subst, arith, ℕ}
-use Rattle.x86_types.specs.declared.instr.Instr.{Instr}
-use Rattle.x86_types.specs.declared.instr.Instr.TheVariants as instr
-use Rattle.x86_grammar.specs.Fields.{HasSpelling}
 use Rattle.code_text.specs.KeptPlaces.{sized}
 use Rattle.code_text.specs.Placing.{instr_size, most_bytes}
 use Rattle.code_text.proofs.InstrSizes.{plain_instr}

@@ -1,5 +1,4 @@
 use Rattle.std.proofs.Common.{arith, subst, sym}
-use Rattle.x86_types.specs.declared.instr.Instr.{Instr}
 use Rattle.x86_grammar.specs.Fields.{HasSpelling}
 use Rattle.code_text.specs.KeptPlaces.{sized}
 use Rattle.code_text.proofs.Walking.{spelled_here, size_end, size_step, few_step}

@@ -1,5 +1,4 @@
 use Rattle.std.proofs.Common.{◌≡◌, ◌+◌, ◌≤◌, map, drop}
-use Rattle.std.specs.List.{sum_by}
 use Rattle.named_code.specs.Items.{placed_item}
 use Rattle.code_text.specs.KeptPlaces.{sized}
 use Rattle.code_text.specs.Placing.{items_size, items_most}

@@ -1,6 +1,6 @@
-use Rattle.std.proofs.Common.{arith, subst, sym}
+use Rattle.std.proofs.Common.{subst, sym}
 use Rattle.x86_grammar.specs.Fields.{HasSpelling}
-use Rattle.code_text.proofs.Walking.{spelled_here, taken_step, taken_over, most_end}
+use Rattle.code_text.proofs.Walking.{spelled_here}
 use Rattle.code_text.proofs.sizes.room_behind.Goals as goal
 
 pub most_bytes-most-requires : goal.most_bytes-most-requires

@@ -1,5 +1,4 @@
-use Rattle.std.proofs.Common.{◌≤◌, ap, ◌∙◌, ◌++◌, [], length, arith}
-use Rattle.std.proofs.lemmas.List.{length-append}
+use Rattle.std.proofs.Common.{ap, ◌∙◌, ◌++◌, length, arith}
 use Rattle.code_text.specs.Texts.{stores_text}
 use Rattle.code_text.proofs.Pushed.{beginning_short}
 use Rattle.code_text.proofs.text.beginning.Goals as goal

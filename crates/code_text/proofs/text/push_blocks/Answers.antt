@@ -1,5 +1,5 @@
-use Rattle.std.proofs.Common.{◌+◌, ◌++◌, length, map, sym, subst, arith}
-use Rattle.named_code.specs.Items.{CodeBlock, placed_item, placed_block}
+use Rattle.std.proofs.Common.{length, map, sym, subst}
+use Rattle.named_code.specs.Items.{CodeBlock, placed_item}
 use Rattle.code_text.specs.KeptPlaces.{places_in}
 use Rattle.code_text.specs.Sizes.{AreItemsSpelled}
 use Rattle.code_text.proofs.Walking.{items_read, block_holds, room_here, room_step_up}

@@ -1,6 +1,5 @@
-use Rattle.std.proofs.Common.{◌+◌, ◌++◌, length, map, sym, subst, arith}
+use Rattle.std.proofs.Common.{◌++◌, length, sym, subst}
 use Rattle.x86_grammar.specs.Fields.{HasSpelling}
-use Rattle.named_code.specs.Items.{placed_item}
 use Rattle.code_text.specs.KeptPlaces.{places_in}
 use Rattle.code_text.specs.Texts.{stop}
 use Rattle.code_text.proofs.Walking.{spelled_here, size_step_up}
