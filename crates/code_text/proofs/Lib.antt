@@ -7,3 +7,4 @@ pub mod FormTexts
 pub mod Walking
 pub mod Adding
 pub mod Pushed
+pub mod SmallTexts
