@@ -87,20 +87,20 @@ module _ (given : Given) where
     number : (n : ℕ) → n < 4294967296 → nat_lt n 4294967296 ≡ true
     number n h = lt-ltb n 4294967296 h
 
-    takes_spelled : (to : Rm) → HasSpelling (instr.JmpTo to) → HasSpelling (instr.Mov Four eax (as_source to))
+    pub takes_spelled : (to : Rm) → HasSpelling (instr.JmpTo to) → HasSpelling (instr.Mov Four eax (as_source to))
     takes_spelled (rm.Reg r) h = (given.fit (instr.Mov Four eax (src.Reg r))).0 refl
     takes_spelled (rm.Mem a) h = (given.fit (instr.Mov Four eax (src.Mem a))).0 ((given.fit (instr.JmpTo (rm.Mem a))).1 h)
 
-    sub_spelled : HasSpelling (instr.Alu alu.Sub Four eax (src.Imm l.span))
+    pub sub_spelled : HasSpelling (instr.Alu alu.Sub Four eax (src.Imm l.span))
     sub_spelled = (given.fit (instr.Alu alu.Sub Four eax (src.Imm l.span))).0 (number l.span fits.0)
 
-    cmp_spelled : HasSpelling (instr.Alu alu.Cmp Four eax (src.Imm l.count))
+    pub cmp_spelled : HasSpelling (instr.Alu alu.Cmp Four eax (src.Imm l.count))
     cmp_spelled = (given.fit (instr.Alu alu.Cmp Four eax (src.Imm l.count))).0 (number l.count fits.1)
 
     look_spelled : HasSpelling (instr.Mov Four eax (src.Mem (table_word l)))
     look_spelled = (given.fit (instr.Mov Four eax (src.Mem (table_word l)))).0 (number l.table fits.2)
 
-    jump_spelled : HasSpelling (instr.JmpTo eax)
+    pub jump_spelled : HasSpelling (instr.JmpTo eax)
     jump_spelled = (given.fit (instr.JmpTo eax)).0 refl
 
     -- ---- what stands where a text does

@@ -1,6 +1,7 @@
 // The laws of the bytes of laid code.
 ghost use Rattle.code_text.specs.KeptPlaces.{FormIsSpelled};
 ghost use Rattle.code_text.specs.Placing.{TextIsLaid, TextLengths};
+ghost use Rattle.code_text.specs.Sizes.{SizeLaws};
 
 use x86_encode::{best_laws, best_lengths};
 use x86_grammar::{front_laws, spelled_fields_fit};
@@ -21,5 +22,15 @@ pub fn layout_laws()
 pub fn form_laws()
     ensures { FormIsSpelled }
 {
+    spelled_fields_fit();
+}
+
+/// What holds of the sizes of instructions.
+pub(crate) fn size_laws()
+    ensures { SizeLaws }
+{
+    best_laws();
+    best_lengths();
+    front_laws();
     spelled_fields_fit();
 }
