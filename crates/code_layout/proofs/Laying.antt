@@ -1,19 +1,19 @@
 -- What is laid out runs as the placed code.
-use Rattle.std.proofs.Common.{◌≡◌, ◌≢◌, ℕ, zero, suc, ◌+◌, ◌-◌, ◌*◌, ◌/◌, ◌%◌, ◌<◌, ◌≤◌, List, [], ◌∷◌, ◌++◌, length, All, Option, Some, None, slice_get, refl, sym, ap, ◌∙◌, subst, arith, length-append}
+use Rattle.std.proofs.Common.{◌≡◌, ◌≢◌, ℕ, zero, suc, ◌+◌, ◌-◌, ◌*◌, ◌/◌, ◌%◌, ◌<◌, ◌≤◌, List, [], ◌∷◌, ◌++◌, length, All, refl, sym, ap, ◌∙◌, subst, arith, length-append}
 use Rattle.image.specs.declared.image.Segment.{Segment}
 use Rattle.image.specs.declared.image.Image.{Image}
 use Rattle.image.specs.Wanted.{image_with, span_of_code}
 use Rattle.image.specs.Rooms.{room_span}
 use Rattle.image.specs.declared.room.Room.TheVariants.{Source}
+use Rattle.x86_types.specs.declared.instr.Instr.TheVariants as instr
 use Rattle.x86_code.specs.Code.{Code, code_of}
-use Rattle.named_code.specs.declared.placed.Home.{Home}
 use Rattle.named_code.specs.declared.placed.Placed.{Placed}
 use Rattle.named_code.specs.Items.{CodeBlock, placed_blocks}
-use Rattle.laid_code.specs.Laid.{Places, IsLaid, FormIsLayable}
+use Rattle.laid_code.specs.Laid.{Places, IsLaid, FormIsLayable, place_of_old}
 use Rattle.laid_code.specs.Beginning.{Begins}
 use Rattle.code_text.specs.KeptPlaces.{code_start, table_start, ArePlacesOf, AreTableWords, FormIsSpelled}
 use Rattle.code_text.specs.Placing.{HasBytesFrom, AreInSpan, AreSpelled, TextIsLaid, blocks_most}
-use Rattle.code_text.specs.Texts.{beginning_text, blocks_text, code_text, stop, stores_text}
+use Rattle.code_text.specs.Texts.{beginning_text, blocks_text, code_text, jump_text, stop, stores_text}
 use Rattle.laid_image.specs.NewImage.{whole_pages, in_pages, new_segments, new_image, FitsSourceRoom, HasNewRoom, HasPagesOf}
 use Rattle.laid_image.specs.ImageLaws.{ImageLaws, HoldsBytes, AreCells, esp_cell}
 use Rattle.code_layout.specs.declared.layout.Layout.{Layout}
@@ -29,15 +29,18 @@ pub record Given : Type 0 where
 
 -- ---- the new segments have room
 -- the text has at least a stop
-some_text : (l : Places) (q cell entry : ℕ) (blocks : List CodeBlock) → 2 ≤ length (code_text l q cell entry blocks)
+some_beginning : (l : Places) (q cell entry : ℕ) → 2 ≤ length (beginning_text l q cell entry)
+some_beginning l q cell entry =
+    let jump = jump_text instr.Jmp 5 (place_of_old l entry) (q + length (stores_text cell)) in
+    let whole = length-append (stores_text cell) (jump ++ stop) in
+    let behind = length-append jump stop in
+    omega (arith, whole, behind)
+
+pub some_text : (l : Places) (q cell entry : ℕ) (blocks : List CodeBlock) → 2 ≤ length (code_text l q cell entry blocks)
 some_text l q cell entry blocks =
-    let jump = λ (from : ℕ). length (beginning_text l q cell entry) in
-    let whole = length-append (beginning_text l q cell entry) (blocks_text l (q + length (beginning_text l q cell entry)) blocks) in
     let begins = some_beginning l q cell entry in
+    let whole = length-append (beginning_text l q cell entry) (blocks_text l (q + length (beginning_text l q cell entry)) blocks) in
     omega (arith, whole, begins)
-  where
-    some_beginning : (l : Places) (q cell entry : ℕ) → 2 ≤ length (beginning_text l q cell entry)
-    some_beginning l q cell entry = omega arith
 
 module _ (placed : Placed) (image : Image) (can : CanBeLaid placed image) where
   abbrev blocks : List CodeBlock
@@ -76,14 +79,7 @@ module _ (given : Given) (placed : Placed) (image : Image) (can : CanBeLaid plac
   abbrev new_code : Code
   new_code = code_of (new_image (old placed image can) (whole_pages (length code)) (in_pages code) words)
 
-  cell_low : (h : Option Home) → slice_get placed.homes 4 ≡ h → cell < 4294967296
-  cell_low None e = rw e (omega arith)
-  cell_low (Some h) e = rw e (let to = (held h e).to in omega (arith, to))
-    where
-      held : (h : Home) → slice_get placed.homes 4 ≡ Some h → IsCell h
-      held h e = All-slice_get IsCell placed.homes 4 h can.cells.cells e
-
-  module _ (is : code ≡ code_text l code_start cell image.entry (blocks placed image can)) (few : length code ≤ blocks_most (blocks placed image can) + 40)
+  module _ (low : cell < 4294967296) (is : code ≡ code_text l code_start cell image.entry (blocks placed image can)) (few : length code ≤ blocks_most (blocks placed image can) + 40)
            (placed_there : ArePlacesOf (blocks placed image can) cell (span_start image.segments) (span_of_code image.segments) l) (table : AreTableWords l words) where
     spelled : AreSpelled (blocks placed image can)
     spelled = given.spelled placed can.form
@@ -107,7 +103,7 @@ module _ (given : Given) (placed : Placed) (image : Image) (can : CanBeLaid plac
         (subst (λ (c : List ℕ). HasBytesFrom new_code code_start (c ++ zeros_behind code)) is stands)
         placed_there.places spelled
         (subst (λ (n : ℕ). AreInSpan n l.count (blocks placed image can)) (sym from) (subst (λ (n : ℕ). AreInSpan (span_start image.segments) n (blocks placed image can)) (sym count) can.in_span))
-        (omega (arith, long, few, most)) (omega (arith, first, from, count)) (omega (arith, at, count, span)) (cell_low (slice_get placed.homes 4) refl)
+        (omega (arith, long, few, most)) (omega (arith, first, from, count)) (omega (arith, at, count, span)) low
         (given.image.none image.segments image.entry (whole_pages (length code)) (in_pages code) words can.source room)
 
     begins_over : (others : List Segment) (held : List ℕ) → HasPagesOf image.segments others → HoldsBytes others → length held % 4096 ≡ 0 → length held ≤ whole_pages (length code) → All (λ b. b < 256) held → BeginsOver placed image.entry parts others held

@@ -17,6 +17,7 @@ pub zeros_behind : List ℕ → List ℕ
 zeros_behind bytes = take (whole_pages (length bytes) - length bytes) (replicate (whole_pages (length bytes)) 0)
 
 pub bytes_then_zeros : (bytes : List ℕ) → in_pages bytes ≡ bytes ++ zeros_behind bytes
+unfolding zeros_behind
 bytes_then_zeros bytes =
     let w : ℕ = whole_pages (length bytes) in
     let holds = pages_hold (length bytes) in

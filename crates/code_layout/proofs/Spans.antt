@@ -47,11 +47,11 @@ first_spans s (t ∷ ss) some = omega (arith, some)
 
 some_spans : (entry : ℕ) (ss : List Segment) → AllByRecursion HasItsPlace ss → list_any (is_code_at entry) ss ≡ true → least (map start_of (codes ss)) < greatest (map segment_end (codes ss))
 some_spans entry [] each some = absurd (cc some)
-some_spans entry (s ∷ ss) each some = by (is_code s) refl
+some_spans entry (s ∷ ss) each some = by (is_code s) refl (λ held. some_spans entry ss each.1 held)
   where
-    by : (b : Bool) → is_code s ≡ b → least (map start_of (codes (s ∷ ss))) < greatest (map segment_end (codes (s ∷ ss)))
-    by true e = rw e (first_spans s (codes ss) each.0.sized)
-    by false e = rw e (some_spans entry ss each.1 (rw e at some))
+    by : (b : Bool) → is_code s ≡ b → (list_any (is_code_at entry) ss ≡ true → least (map start_of (codes ss)) < greatest (map segment_end (codes ss))) → least (map start_of (codes (s ∷ ss))) < greatest (map segment_end (codes (s ∷ ss)))
+    by true e rest = rw e (first_spans s (codes ss) each.0.sized)
+    by false e rest = rw e (rest (rw e at some))
 
 pub span_is_some : (segments : List Segment) (entry : ℕ) → FitsSourceRoom segments entry → 0 < span_of_code segments
 span_is_some segments entry fits = let some = some_spans entry segments fits.wide.each fits.wide.entered in omega (arith, some)

@@ -11,7 +11,7 @@ use Rattle.x86_encode.specs.Choice.{best}
 use Rattle.laid_code.specs.Laid.{Places}
 use Rattle.laid_code.specs.Beginning.{esp_to}
 use Rattle.code_text.specs.KeptPlaces.{table_start, sized}
-use Rattle.code_text.specs.LaidInstrs.{take_address, less_span, compare_count, look_up, enter, clear_esp}
+use Rattle.code_text.specs.TableJump.{take_address, less_span, compare_count, look_up, enter, clear_esp}
 use Rattle.code_text.specs.Texts.{instr_text, before_test, behind_test, stores_text}
 use Rattle.code_text.specs.Placing.{instr_size, most_bytes}
 use Rattle.code_text.specs.Sizes.{IsPlain, HasFields, SizeLaws}

@@ -16,7 +16,7 @@ use Rattle.named_code.specs.Items.{Item, placed_item, placed_block}
 use Rattle.laid_code.specs.Laid.{Places}
 use Rattle.code_text.specs.declared.places.CodePlaces.{CodePlaces}
 use Rattle.code_text.specs.KeptPlaces.{places_in, place_behind}
-use Rattle.code_text.specs.LaidInstrs.{look_up, enter}
+use Rattle.code_text.specs.TableJump.{look_up, enter}
 use Rattle.code_text.specs.Placing.{most_bytes}
 use Rattle.code_text.specs.Texts.{stop, jump_text, before_test, table_text, instr_text, items_text, blocks_text, stores_text}
 use Rattle.code_text.specs.Sizes.{HasFields, SizeLaws}

@@ -11,8 +11,9 @@ use Rattle.named_code.specs.declared.placed.PInstr.{PInstr}
 use Rattle.named_code.specs.declared.placed.PBlock.{PBlock}
 use Rattle.named_code.specs.Items.{Item, CodeBlock, placed_item, placed_block}
 use Rattle.laid_code.specs.Laid.{Places}
+use Rattle.code_text.specs.KeptPlaces.{room_left}
 use Rattle.code_text.specs.Placing.{instr_size, items_size, most_bytes, items_most, blocks_most, AreInSpan}
-use Rattle.code_text.specs.Sizes.{AreItemsSpelled, room_left}
+use Rattle.code_text.specs.Sizes.{AreItemsSpelled}
 
 -- ---- items, of which one is in turn
 module _ (homes : List Home) (items : List PInstr) where

@@ -1,5 +1,5 @@
 -- How the places of blocks are kept: a map of numbers, and a word for each old address of the span. All of this is own.
-use Rattle.std.specs.Prelude.{◌≡◌, ℕ, ◌+◌, ◌-◌, ◌<◌, ◌||◌, ◌==◌, ◌&&◌, not, cond, leb, ltb, List, length, slice_index}
+use Rattle.std.specs.Prelude.{◌≡◌, ℕ, ◌+◌, ◌-◌, ◌<◌, ◌||◌, ◌==◌, ◌&&◌, not, cond, leb, ltb, List, length, slice_index, Option, Some, None}
 use Rattle.std.specs.Option.{unwrap_or}
 use Rattle.std.specs.Ordering.{nat_cmp}
 use Rattle.std.specs.BTreeMap.{get}
@@ -74,6 +74,10 @@ pub record GoesOn (old new : Places) (q : ℕ) (blocks : List CodeBlock) : Type 
   pub span : new.span ≡ old.span
   pub count : new.count ≡ old.count
   pub stop : new.stop ≡ old.stop
+
+-- what is left of room for some bytes, where it is enough
+abbrev pub room_left : ℕ → ℕ → Option ℕ
+room_left n room = cond (leb n room) (Some (room - n)) None
 
 -- the place behind a text that stands at the beginning of new code
 abbrev pub place_behind : List ℕ → ℕ

@@ -1,6 +1,5 @@
 pub mod Texts
 pub mod Placing
 pub mod KeptPlaces
-pub mod LaidInstrs
+pub mod TableJump
 pub mod Sizes
-pub mod SmallPlaced

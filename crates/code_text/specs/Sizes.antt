@@ -1,5 +1,5 @@
 -- What holds of the sizes of instructions. All of this is own.
-use Rattle.std.specs.Prelude.{◌-◌, cond, leb, Option, Some, None, ◌≡◌, ℕ, ◌<◌, ◌≤◌, List, length, All}
+use Rattle.std.specs.Prelude.{◌≡◌, ℕ, ◌<◌, ◌≤◌, List, length, All}
 use Rattle.x86_types.specs.declared.operand.Rm.{Rm}
 use Rattle.x86_types.specs.declared.instr.Instr.{Instr}
 use Rattle.x86_types.specs.declared.instr.Instr.TheVariants as instr
@@ -11,7 +11,7 @@ use Rattle.code_text.specs.KeptPlaces.{table_start, sized}
 use Rattle.code_text.specs.Placing.{instr_size, most_bytes}
 use Rattle.code_text.specs.Texts.{before_test, instr_text, jump_text, stores_text}
 
--- an instruction that is none of the jumps whose places are found last
+-- an instruction that is no jump but a call or a return
 abbrev pub IsPlain : Instr → Type 0
 IsPlain (instr.Jmp n) = ⊥
 IsPlain (instr.Jcc c n) = ⊥
@@ -20,10 +20,6 @@ IsPlain i = Unit {0}
 
 abbrev pub AreItemsSpelled : List Item → Type 0
 AreItemsSpelled items = All (λ (x : Item). HasSpelling x.instr) items
-
--- what is left of room for some bytes, where it is enough
-abbrev pub room_left : ℕ → ℕ → Option ℕ
-room_left n room = cond (leb n room) (Some (room - n)) None
 
 pub record HasFields (l : Places) : Type 0 where
   pub span : l.span < 4294967296

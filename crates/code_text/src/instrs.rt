@@ -4,7 +4,7 @@ ghost use Rattle.x86_types.specs.declared.instr.Instr.TheVariants.{JmpTo};
 ghost use Rattle.x86_grammar.specs.Fields.{HasSpelling};
 ghost use Rattle.named_code.specs.Items.{cell_of, placed_item, word_at};
 ghost use Rattle.laid_code.specs.Beginning.{esp_to};
-ghost use Rattle.code_text.specs.LaidInstrs as laid;
+ghost use Rattle.code_text.specs.TableJump as table_jump;
 
 use named_code::{Home, PInstr};
 use x86_grammar::spelled_fields_fit;
@@ -56,7 +56,7 @@ pub(crate) fn instr_of(homes: &[Home], item: &PInstr) -> Instr
 /// An old address goes to eax.
 pub(crate) fn take_address(to: Rm) -> Instr
     requires { HasSpelling (JmpTo to) }
-    ensures is { result ≡ laid.take_address to }
+    ensures is { result ≡ table_jump.take_address to }
     ensures spelled { HasSpelling result }
 {
     spelled_fields_fit();
@@ -73,7 +73,7 @@ pub(crate) fn take_address(to: Rm) -> Instr
 
 /// The beginning of the span is taken from eax.
 pub(crate) fn less_span(span: u32) -> Instr
-    ensures is { result ≡ laid.less_span span }
+    ensures is { result ≡ table_jump.less_span span }
     ensures spelled { HasSpelling result }
 {
     spelled_fields_fit();
@@ -87,7 +87,7 @@ pub(crate) fn less_span(span: u32) -> Instr
 
 /// eax is compared with the number of addresses in the span.
 pub(crate) fn compare_count(count: u32) -> Instr
-    ensures is { result ≡ laid.compare_count count }
+    ensures is { result ≡ table_jump.compare_count count }
     ensures spelled { HasSpelling result }
 {
     spelled_fields_fit();
@@ -101,7 +101,7 @@ pub(crate) fn compare_count(count: u32) -> Instr
 
 /// The word of the address table goes to eax.
 pub(crate) fn look_up() -> Instr
-    ensures is { result ≡ laid.look_up }
+    ensures is { result ≡ table_jump.look_up }
     ensures spelled { HasSpelling result }
 {
     spelled_fields_fit();
@@ -120,7 +120,7 @@ pub(crate) fn look_up() -> Instr
 
 /// The jump to the place in eax.
 pub(crate) fn enter() -> Instr
-    ensures is { result ≡ laid.enter }
+    ensures is { result ≡ table_jump.enter }
     ensures spelled { HasSpelling result }
 {
     spelled_fields_fit();
@@ -142,7 +142,7 @@ pub(crate) fn store_esp(cell: u32) -> Instr
 
 /// esp becomes 0.
 pub(crate) fn clear_esp() -> Instr
-    ensures is { result ≡ laid.clear_esp }
+    ensures is { result ≡ table_jump.clear_esp }
     ensures spelled { HasSpelling result }
 {
     spelled_fields_fit();

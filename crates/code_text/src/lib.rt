@@ -7,8 +7,6 @@ mod places;
 mod placing;
 mod pushing;
 mod sizes;
-#[cfg(test)]
-mod tests;
 mod text;
 
 pub use laws::{form_laws, layout_laws};

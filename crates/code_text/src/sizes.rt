@@ -4,9 +4,9 @@ ghost use Rattle.x86_types.specs.declared.instr.Instr.TheVariants.{JmpTo};
 ghost use Rattle.x86_grammar.specs.Fields.{HasSpelling};
 ghost use Rattle.x86_encode.specs.Choice.{best};
 ghost use Rattle.named_code.specs.Items.{placed_block, placed_blocks, placed_item};
-ghost use Rattle.code_text.specs.KeptPlaces.{sized};
+ghost use Rattle.code_text.specs.KeptPlaces.{room_left, sized};
 ghost use Rattle.code_text.specs.Placing.{AreSpelled, blocks_most, instr_size, items_most, items_size, most_bytes};
-ghost use Rattle.code_text.specs.Sizes.{AreItemsSpelled, room_left};
+ghost use Rattle.code_text.specs.Sizes.{AreItemsSpelled};
 ghost use Rattle.code_text.specs.Texts.{stores_text};
 
 use crate::instrs::{

@@ -95,8 +95,8 @@ data Region (a : ℕ) : Type 0 where
   of_variables : 0x76000000 ≤ a → a < 0x79000000 → Region a
   of_frames : 0x79000000 ≤ a → a < 0x7C000000 → Region a
 
-at : (b a : ℕ) → (a < b) ⊎ (b ≤ a)
-at b a = grind arith
+below_or_from : (b a : ℕ) → (a < b) ⊎ (b ≤ a)
+below_or_from b a = grind arith
 
 reserved_low : (a : ℕ) → 0x60000000 ≤ a → a < 0x75000000 → is_unreserved a ≡ false
 reserved_low a from to = rw (le-ltb a 0x60000000 from, lt-leb 0x75000000 a to) refl
@@ -105,17 +105,17 @@ reserved_high : (a : ℕ) → 0x75800000 ≤ a → a < 0x76000000 → is_unreser
 reserved_high a from to = rw (le-ltb a 0x60000000 (omega (arith, from)), le-leb 0x75000000 a (omega (arith, from)), le-ltb a 0x75800000 from, lt-leb 0x76000000 a to) refl
 
 region : (a : ℕ) → Region a
-region a = elim (at 0x60000000 a) [
+region a = elim (below_or_from 0x60000000 a) [
   | inl low ↦ outside (inl low)
-  | inr from ↦ elim (at 0x75000000 a) [
+  | inr from ↦ elim (below_or_from 0x75000000 a) [
     | inl code ↦ reserved from (omega (arith, code)) (reserved_low a from code)
-    | inr past_code ↦ elim (at 0x75800000 a) [
+    | inr past_code ↦ elim (below_or_from 0x75800000 a) [
       | inl cells ↦ of_cells past_code cells
-      | inr past_cells ↦ elim (at 0x76000000 a) [
+      | inr past_cells ↦ elim (below_or_from 0x76000000 a) [
         | inl gap ↦ reserved from (omega (arith, gap)) (reserved_high a past_cells gap)
-        | inr past_gap ↦ elim (at 0x79000000 a) [
+        | inr past_gap ↦ elim (below_or_from 0x79000000 a) [
           | inl variables ↦ of_variables past_gap variables
-          | inr past_variables ↦ elim (at 0x7C000000 a) [ inl frames ↦ of_frames past_variables frames | inr past ↦ outside (inr past) ]
+          | inr past_variables ↦ elim (below_or_from 0x7C000000 a) [ inl frames ↦ of_frames past_variables frames | inr past ↦ outside (inr past) ]
         ]
       ]
     ]
@@ -172,7 +172,7 @@ module _ (laws : MemoryLaws) (old : List Segment) (entry size : ℕ) (code words
   free_unreserved a (inr high) = rw (le-ltb a 0x60000000 (omega (arith, high)), le-leb 0x75000000 a (omega (arith, high)), le-ltb a 0x75800000 (omega (arith, high)), le-leb 0x76000000 a high) refl
 
   free : (a : ℕ) → is_unreserved a ≡ false → kind_of (left a) ≡ Some (true, false)
-  free a none = by (at 0x60000000 a) (at 0x7C000000 a)
+  free a none = by (below_or_from 0x60000000 a) (below_or_from 0x7C000000 a)
     where
       no : (a < 0x60000000) ⊎ (0x76000000 ≤ a) → kind_of (left a) ≡ Some (true, false)
       no out = let both : true ≡ false = sym (free_unreserved a out) ∙ none in absurd (cc both)
