@@ -1,0 +1,6 @@
+mod FewTemps
+mod Names
+mod InSpan
+mod NameCells
+pub mod PlacedCode
+pub mod Recompiled
