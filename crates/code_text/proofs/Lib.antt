@@ -7,4 +7,3 @@ pub mod FormTexts
 pub mod Walking
 pub mod Adding
 pub mod Pushed
-pub mod SmallTexts
