@@ -1,0 +1,3 @@
+pub mod CodeSegments
+pub mod Pages
+pub mod Places

@@ -1,0 +1,3 @@
+pub mod KeptPlaces
+pub mod NewImage
+pub mod Layouts
