@@ -1,8 +1,8 @@
 // The segments of a written file.
 ghost use Rattle.std.specs.Prelude.{◌≡◌, ◌*◌, ◌<◌, ◌≤◌, [], length, map, IfOk};
 ghost use Rattle.image.specs.Wanted.{HasItsPlace};
-ghost use Rattle.code_text.specs.KeptPlaces.{code_start, table_start};
-ghost use Rattle.laid_image.specs.NewImage.{whole_pages, in_pages, as_data, own_segment, words_bytes, new_segments, HasNewRoom};
+ghost use Rattle.segment_parts.specs.KeptPlaces.{code_start, table_start};
+ghost use Rattle.segment_parts.specs.NewImage.{whole_pages, in_pages, as_data, own_segment, words_bytes, new_segments, HasNewRoom};
 
 use byte_lists::{ByteList, push_words};
 use image::{Image, Perm, Segment, SegmentList, has_its_place};
@@ -53,7 +53,7 @@ fn in_pages(bytes: Vec<u8>) -> Result<Vec<u8>, AllocError>
 }
 
 /// The segment of these bytes, which can't be written.
-#[tactic(auto, using(crate::proofs::Places::bytes_place, crate::proofs::Pages::length_in_pages))]
+#[tactic(auto, using(crate::proofs::Pages::length_in_pages))]
 fn bytes_segment(start: u32, perm: Perm, bytes: Vec<u8>) -> Result<Segment, AllocError>
     requires few { length bytes.items ≤ 0x14000000 }
     requires place { HasItsPlace (own_segment start (whole_pages (length bytes.items)) perm.0 (in_pages bytes.items)) }
@@ -69,7 +69,7 @@ fn bytes_segment(start: u32, perm: Perm, bytes: Vec<u8>) -> Result<Segment, Allo
 }
 
 /// The segment of the words of the address table.
-#[tactic(auto, using(crate::proofs::Places::table_place, crate::proofs::Pages::length_words))]
+#[tactic(auto, using(crate::proofs::Places::table_place, crate::proofs::Places::length_words))]
 fn table_segment(alloc: Global, words: &[u32]) -> Result<Segment, AllocError>
     requires some { 0 < length words.now }
     requires few { 4 * length words.now ≤ 0x1000000 }
@@ -95,8 +95,8 @@ fn zero_segment(alloc: Global, start: u32, size: u32) -> Segment
 
 /// The old segments, of which none can be run, and behind them the new code, the table of these words, the cells, the variables and the
 /// images of frames.
-#[tactic(auto, using(crate::proofs::Places::code_place, crate::proofs::Places::joined), unfolding(laid_image::specs::NewImage::new_segments))]
-pub(crate) fn new_segments(
+#[tactic(auto, using(crate::proofs::Places::code_place, crate::proofs::Places::joined), unfolding(crate::specs::NewImage::new_segments))]
+pub fn new_segments(
     alloc: Global,
     image: &Image,
     code: Vec<u8>,

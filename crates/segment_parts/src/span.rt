@@ -2,14 +2,14 @@
 ghost use Rattle.std.specs.Prelude.{◌≡◌, filter, map};
 ghost use Rattle.image.specs.Rooms.{greatest};
 ghost use Rattle.image.specs.Wanted.{is_code, segment_end, span_of_code};
-ghost use Rattle.code_layout.specs.Layouts.{span_start};
+ghost use Rattle.segment_parts.specs.Layouts.{span_start};
 
 use bitflags::Flags;
 use image::{Image, Perm, Segment, has_its_place};
 
 /// The first address that can be run, and how many addresses lie up to the end of the last segment that can be run.
 #[derive(Clone, Copy, Debug)]
-pub(crate) struct CodeSpan {
+pub struct CodeSpan {
     pub(crate) start: u32,
     pub(crate) count: u32,
 }
@@ -22,7 +22,7 @@ fn is_code(segment: &Segment) -> bool
 }
 
 /// The first address of the segments that can be run, 0 where there is none.
-#[tactic(auto, using(crate::proofs::CodeSegments::least_code, crate::proofs::CodeSegments::least_data, crate::proofs::CodeSegments::least_end))]
+#[tactic(auto, using(crate::proofs::CodeSegments::least_code, crate::proofs::CodeSegments::only_code, crate::proofs::CodeSegments::least_data, crate::proofs::CodeSegments::least_end))]
 fn least_start(segments: &[Segment]) -> u32
     ensures { result ≡ span_start segments.now }
 {
@@ -54,7 +54,7 @@ fn greatest_end(segments: &[Segment]) -> u32
 }
 
 /// The span of the segments of an image that can be run.
-pub(crate) fn code_span(image: &Image) -> CodeSpan
+pub fn code_span(image: &Image) -> CodeSpan
     ensures start { result.start ≡ span_start image.now.segments }
     ensures count { result.count ≡ span_of_code image.now.segments }
 {
