@@ -40,7 +40,7 @@ data_place s place = record {
   not_both = and_false (has (s.perm.0 - s.perm.0 % 2) 2) (has (s.perm.0 - s.perm.0 % 2) 1) (not_code s.perm.0);
 }
 
--- ---- the segments of the code and of the table
+-- ---- the segment of the code
 pub code_place : (code : List ℕ) → 0 < whole_pages (length code) → whole_pages (length code) ≤ 0x14000000 → HasItsPlace (own_segment code_start (whole_pages (length code)) 5 (in_pages code))
 code_place code some few = record {
   start_in_pages = refl;
@@ -55,23 +55,27 @@ code_place code some few = record {
   not_both = refl;
 }
 
-pub table_place : (bytes : List ℕ) → 0 < length bytes → length bytes ≤ 0x1000000 → HasItsPlace (own_segment table_start (whole_pages (length bytes)) 4 (in_pages bytes))
-table_place bytes some few = record {
-  start_in_pages = refl;
-  size_in_pages = omega arith;
-  bytes_in_pages = omega (arith, length_in_pages bytes);
-  sized = omega (arith, some);
-  within = omega (arith, length_in_pages bytes);
-  from = omega arith;
-  to = omega (arith, few);
-  perm = omega arith;
-  readable = refl;
-  not_both = refl;
-}
-
+-- ---- the segment of the table
 pub length_words : (words : List ℕ) → length (words_bytes words) ≡ 4 * length words
 length_words [] = refl
 length_words (w ∷ words) = let rest = length_words words in omega (arith, rest)
+
+-- its bytes are those of the words
+pub table_place : (words bytes : List ℕ) → bytes ≡ words_bytes words → 0 < length words → 4 * length words ≤ 0x1000000 → HasItsPlace (own_segment table_start (whole_pages (length bytes)) 4 (in_pages bytes))
+table_place words bytes is some few =
+    let long : length bytes ≡ 4 * length words = ap length is ∙ length_words words in
+    record {
+      start_in_pages = refl;
+      size_in_pages = omega arith;
+      bytes_in_pages = omega (arith, length_in_pages bytes);
+      sized = omega (arith, some, long);
+      within = omega (arith, length_in_pages bytes);
+      from = omega arith;
+      to = omega (arith, few, long);
+      perm = omega arith;
+      readable = refl;
+      not_both = refl;
+    }
 
 -- ---- all of them
 pub joined : (old : List Segment) (a b c d e : Segment) → ((((old ++ a ∷ []) ++ b ∷ []) ++ c ∷ []) ++ d ∷ []) ++ e ∷ [] ≡ old ++ a ∷ b ∷ c ∷ d ∷ e ∷ []

@@ -17,7 +17,7 @@ const TABLE_START: u32 = 0x7400_0000;
 /// A segment of the same pages with the same bytes, which can't be run.
 #[tactic(auto, using(crate::proofs::Places::data_place))]
 fn as_data(alloc: Global, segment: &Segment) -> Result<Segment, AllocError>
-    ensures { IfOk result (λ data. data ≡ as_data segment.now) }
+    ensures { IfOk result (λ made. made ≡ as_data segment.now) }
 {
     has_its_place(segment);
     let mut bytes = Vec::with_capacity(alloc, segment.bytes.len())?;
@@ -69,7 +69,7 @@ fn bytes_segment(start: u32, perm: Perm, bytes: Vec<u8>) -> Result<Segment, Allo
 }
 
 /// The segment of the words of the address table.
-#[tactic(auto, using(crate::proofs::Places::table_place, crate::proofs::Places::length_words))]
+#[tactic(auto, using(crate::proofs::Places::length_words))]
 fn table_segment(alloc: Global, words: &[u32]) -> Result<Segment, AllocError>
     requires some { 0 < length words.now }
     requires few { 4 * length words.now ≤ 0x1000000 }
