@@ -1,5 +1,5 @@
 -- The least start and the greatest end of the segments that can be run, one segment at a time.
-use Rattle.std.proofs.Common.{◌≡◌, ℕ, ◌+◌, ◌<◌, ◌≤◌, ◌∙◌, Bool, true, false, cond, max, min, List, [], ◌∷◌, length, map, filter, drop, get_or, Option, Some, None, ap, refl, arith, sym}
+use Rattle.std.proofs.Common.{◌≡◌, ℕ, ◌+◌, ◌<◌, ◌≤◌, ◌∙◌, true, false, max, min, List, [], ◌∷◌, length, map, filter, drop, get_or, Option, Some, None, ap, refl, arith, sym}
 use Rattle.std.proofs.lemmas.List.{at_drop_more, at_drop_all}
 use Rattle.image.specs.declared.image.Segment.{Segment}
 use Rattle.image.specs.Rooms.{greatest, least}

@@ -1,12 +1,11 @@
 -- The places of the segments of a written file.
-use Rattle.std.proofs.Common.{◌≡◌, ℕ, ◌+◌, ◌-◌, ◌*◌, ◌/◌, ◌%◌, ◌<◌, ◌≤◌, ◌==◌, ◌&&◌, Bool, true, false, List, [], ◌∷◌, ◌++◌, length, map, flat_map, refl, ap, ◌∙◌, sym, arith, length-append}
+use Rattle.std.proofs.Common.{◌≡◌, ℕ, ◌-◌, ◌*◌, ◌/◌, ◌%◌, ◌<◌, ◌≤◌, ◌&&◌, Bool, true, false, List, [], ◌∷◌, ◌++◌, length, refl, ap, ◌∙◌, arith}
 use Rattle.std.proofs.lemmas.Bool.Decides.{nat_tests}
-use Rattle.byte_lists.specs.LittleEndian.{word_bytes}
 use Rattle.image.specs.declared.image.Segment.{Segment}
 use Rattle.image.specs.Addresses.{has}
 use Rattle.image.specs.Wanted.{HasItsPlace}
 use Rattle.segment_parts.specs.KeptPlaces.{code_start, table_start}
-use Rattle.segment_parts.specs.NewImage.{whole_pages, in_pages, as_data, own_segment, own_segments, words_bytes, new_segments, HasNewRoom}
+use Rattle.segment_parts.specs.NewImage.{whole_pages, in_pages, as_data, own_segment, words_bytes}
 use Rattle.segment_parts.proofs.Pages.{length_in_pages}
 
 -- ---- an old segment, which can't be run any more

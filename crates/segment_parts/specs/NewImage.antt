@@ -3,11 +3,10 @@ use Rattle.std.specs.Prelude.{◌≡◌, ℕ, ◌+◌, ◌-◌, ◌*◌, ◌/◌
 use Rattle.std.specs.List.{sum_by}
 use Rattle.byte_lists.specs.LittleEndian.{word_bytes}
 use Rattle.image.specs.declared.image.Segment.{Segment}
-use Rattle.image.specs.declared.image.Image.{Image}
 use Rattle.image.specs.declared.perm.Perm.{Perm}
 use Rattle.image.specs.declared.room.Room.TheVariants.{Source}
 use Rattle.image.specs.Rooms.{room_end, room_span, room_size}
-use Rattle.image.specs.Wanted.{FitsWideRoom, segment_end, span_of_code, image_with}
+use Rattle.image.specs.Wanted.{FitsWideRoom, segment_end, span_of_code}
 use Rattle.segment_parts.specs.KeptPlaces.{code_start, table_start}
 
 -- ---- bytes in whole pages
@@ -41,7 +40,6 @@ own_segments size code words =
 
 unfoldable pub new_segments : List Segment → ℕ → List ℕ → List ℕ → List Segment
 new_segments old size code words = map as_data old ++ own_segments size code words
-
 
 -- ---- what is wanted of them
 -- the old segments have their places in the room of files that are rewritten

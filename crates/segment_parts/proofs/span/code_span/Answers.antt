@@ -1,4 +1,4 @@
-use Rattle.std.proofs.Common.{◌≡◌, ◌-◌, ap, ◌∙◌}
+use Rattle.std.proofs.Common.{◌-◌, ap, ◌∙◌}
 use Rattle.image.specs.declared.image.Image.{Image}
 use Rattle.image.specs.Wanted.{span_of_code}
 use Rattle.segment_parts.proofs.span.code_span.Goals as goal
