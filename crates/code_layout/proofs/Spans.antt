@@ -7,7 +7,7 @@ use Rattle.std.specs.List.{AllByRecursion, list_any}
 use Rattle.image.specs.declared.image.Segment.{Segment}
 use Rattle.image.specs.declared.room.Room.TheVariants.{Source}
 use Rattle.image.specs.Rooms.{greatest, least, room_end}
-use Rattle.image.specs.Wanted.{HasItsPlace, segment_end, is_code, is_code_at, span_of_code}
+use Rattle.image.specs.Wanted.{FitsWideRoom, HasItsPlace, segment_end, is_code, is_code_at, span_of_code}
 use Rattle.laid_image.specs.NewImage.{FitsSourceRoom}
 use Rattle.code_layout.specs.Layouts.{span_start, start_of}
 
@@ -89,3 +89,18 @@ least_none ss i a past = at_drop_all (λ xs. least (a ∷ map start_of (codes xs
 front_is_none : (ss : List Segment) → least (map start_of ss) < greatest (map segment_end ss) → least (map start_of ss) ≤ 4294967295 → least (4294967295 ∷ map start_of ss) ≡ least (map start_of ss)
 front_is_none [] some low = absurd (omega (arith, some))
 front_is_none (s ∷ ss) some low = omega (arith, low)
+
+least_low : (x : ℕ) (xs : List ℕ) → least (x ∷ xs) ≤ x
+least_low x [] = omega arith
+least_low x (y ∷ ys) = omega arith
+
+starts_low : (ss : List Segment) → AllByRecursion HasItsPlace ss → least (map start_of (codes ss)) ≤ 4294967295
+starts_low [] each = omega arith
+starts_low (s ∷ ss) each = by (is_code s) refl (starts_low ss each.1)
+  where
+    by : (b : Bool) → is_code s ≡ b → least (map start_of (codes ss)) ≤ 4294967295 → least (map start_of (codes (s ∷ ss))) ≤ 4294967295
+    by true e rest = rw e (let low = least_low s.start (map start_of (codes ss)) in let to = each.0.to in omega (arith, low, to))
+    by false e rest = rw e rest
+
+pub start_is_least : (segments : List Segment) (entry : ℕ) → FitsWideRoom segments entry → least (4294967295 ∷ map start_of (codes segments)) ≡ span_start segments
+start_is_least segments entry fits = front_is_none (codes segments) (some_spans entry segments fits.each fits.entered) (starts_low segments fits.each)
