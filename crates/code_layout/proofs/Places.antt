@@ -72,3 +72,6 @@ table_place words some few = let long = length_in_pages (words_bytes words) in l
 pub new_ones : (old : List Segment) (size : ℕ) (code words : List ℕ) → new_segments old size code words ≡ map as_data old ++ own_segments size code words
 unfolding new_segments
 new_ones old size code words = refl
+
+pub table_long : (words pages : List ℕ) → pages ≡ in_pages (words_bytes words) → length pages ≡ whole_pages (4 * length words)
+table_long words pages is = ap length is ∙ (length_in_pages (words_bytes words) ∙ ap whole_pages (words_long words))

@@ -1,6 +1,6 @@
 // The segments of a written file.
 ghost use Rattle.std.specs.Prelude.{◌≡◌, ◌+◌, ◌*◌, ◌%◌, ◌<◌, ◌≤◌, ◌++◌, [], length, map, IfOk};
-ghost use Rattle.laid_image.specs.NewImage.{as_data, whole_pages, in_pages, new_segments, own_segment, words_bytes, HasNewRoom};
+ghost use Rattle.laid_image.specs.NewImage.{as_data, whole_pages, in_pages, new_segments, own_segment, own_segments, words_bytes, HasNewRoom};
 
 use byte_lists::{ByteList, push_word};
 use image::{Image, Perm, Segment, SegmentList, has_its_place};
@@ -67,7 +67,6 @@ fn code_segment(code: Vec<u8>) -> Result<Segment, AllocError>
     })
 }
 
-#[tactic(auto, using(crate::proofs::Places::table_place, crate::proofs::Places::words_long))]
 fn table_segment(alloc: Global, words: &[u32]) -> Result<Segment, AllocError>
     requires some { 0 < length words.now }
     requires few { 4 * length words.now ≤ 0x1000000 }
@@ -99,6 +98,19 @@ fn zero_segment(alloc: Global, start: u32, size: u32) -> Segment
     }
 }
 
+fn own_segments(alloc: Global, code: Vec<u8>, words: &[u32]) -> Result<Vec<Segment>, AllocError>
+    requires some { 1 ≤ length code.items }
+    requires room { HasNewRoom (whole_pages (length code.items)) (in_pages code.items) words.now }
+    ensures { IfOk result (λ own. own.items ≡ own_segments (whole_pages (length code.items)) (in_pages code.items) words.now) }
+{
+    let code = code_segment(code)?;
+    let table = table_segment(alloc, words)?;
+    let cells = zero_segment(alloc, 0x7500_0000, 0x80_0000);
+    let variables = zero_segment(alloc, 0x7600_0000, 0x300_0000);
+    let frames = zero_segment(alloc, 0x7900_0000, 0x300_0000);
+    Ok(Vec::from_array(alloc, [code, table, cells, variables, frames])?)
+}
+
 /// The old segments, of which none can be run, and behind them the new code, the table of these words, the cells, the variables and the
 /// images of frames.
 #[tactic(auto, using(crate::proofs::Places::new_ones))]
@@ -112,11 +124,8 @@ pub(crate) fn new_segments(
     requires room { HasNewRoom (whole_pages (length code.items)) (in_pages code.items) words.now }
     ensures { IfOk result (λ segments. segments ≡ new_segments image.now.segments (whole_pages (length code.items)) (in_pages code.items) words.now) }
 {
+    let mut own = own_segments(alloc, code, words)?;
     let mut segments = data_segments(alloc, image.segments.as_slice())?;
-    segments.push(code_segment(code)?)?;
-    segments.push(table_segment(alloc, words)?)?;
-    segments.push(zero_segment(alloc, 0x7500_0000, 0x80_0000))?;
-    segments.push(zero_segment(alloc, 0x7600_0000, 0x300_0000))?;
-    segments.push(zero_segment(alloc, 0x7900_0000, 0x300_0000))?;
+    segments.append(&mut own)?;
     Ok(SegmentList::new(segments))
 }
