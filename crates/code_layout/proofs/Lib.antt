@@ -1,3 +1,4 @@
 mod Spans
 mod Pages
+mod Places
 pub mod Laying

@@ -22,8 +22,11 @@ use Rattle.laid_image.specs.ImageLaws.{HoldsBytes, AreCells, esp_cell}
 use Rattle.code_layout.specs.declared.layout.Layout.{Layout}
 
 -- ---- the first address of the old code; its span has a word of the address table for each address
+abbrev pub start_of : Segment → ℕ
+start_of s = s.start
+
 abbrev pub span_start : List Segment → ℕ
-span_start segments = least (map (λ (s : Segment). s.start) (filter is_code segments))
+span_start segments = least (map start_of (filter is_code segments))
 
 -- ---- what can be laid
 pub record CanBeLaid (placed : Placed) (image : Image) : Type 0 where

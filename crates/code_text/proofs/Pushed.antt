@@ -63,14 +63,14 @@ unfolding instr_text
 to_text l q to i is = sym (ap (instr_text l q) is)
 
 -- how long the beginning is
-pub beginning_short : (laws : SizeLaws) (cell to : ℕ) (a b d : List ℕ) → cell < 4294967296 → a ≡ [] ++ stores_text cell → b ≡ a ++ jump_text instr.Jmp 5 to (place_behind a) → d ≡ b ++ stop → length d ≤ 40
-beginning_short laws cell to a b d low a_is b_is d_is =
+pub beginning_short : (laws : SizeLaws) (cell to : ℕ) (a b d u : List ℕ) → cell < 4294967296 → a ≡ [] ++ stores_text cell → b ≡ a ++ jump_text instr.Jmp 5 to (place_behind a) → d ≡ b ++ u → length u ≡ 2 → length d ≤ 40
+beginning_short laws cell to a b d u low a_is b_is d_is two =
     let stores = laws.stores cell low in
     let jump = laws.jump to (place_behind a) in
     let first = ap length a_is in
     let second = ap length b_is ∙ length-append a (jump_text instr.Jmp 5 to (place_behind a)) in
-    let third = ap length d_is ∙ length-append b stop in
-    omega (arith, stores, jump, first, second, third)
+    let third = ap length d_is ∙ length-append b u in
+    omega (arith, stores, jump, first, second, third, two)
 
 -- ---- a text that goes on with an item, or with a block
 module _ (homes : List Home) (items : List PInstr) (l : Places) where

@@ -101,10 +101,11 @@ module _ (most : ℕ) (lifting : Lifting) (plain : IsPlain most lifting) (code :
   ops_of : (P : List Op → Type 0) → P [] → ((p : Place) → P (lifting.list p)) → (k : ℕ) (b : Block) → slice_get (blocks ++ further) k ≡ Some b → P b.ops
   ops_of P none each k b e = ops_by P none each k b (get_cases blocks further k b e)
 
+  short_ops : (k : ℕ) (b : Block) → slice_get (blocks ++ further) k ≡ Some b → length b.ops ≤ most
+  short_ops k b e = ops_of (λ (l : List Op). length l ≤ most) (omega arith) plain.short k b e
+
   short_cost : (k : ℕ) (b : Block) → slice_get (blocks ++ further) k ≡ Some b → block_cost one_each b ≤ most + 1
-  short_cost k b e =
-      let low = ops_of (λ (l : List Op). length l ≤ most) (omega arith) plain.short k b e in
-      omega (arith, cost_is b.ops b.exit, low)
+  short_cost k b e = omega (arith, cost_is b.ops b.exit, short_ops k b e)
 
   module _ (up : IsStrictlyIncreasing (addresses_of code)) (above : (p : Place) → Contains code p → p.at ≢ 0) where
     -- ---- numbers
@@ -329,6 +330,12 @@ module _ (most : ℕ) (lifting : Lifting) (plain : IsPlain most lifting) (code :
         apart = λ i j p q e f same. no_proc p (get_contains unit.procs i p e);
       }
 
+      pub short_lists : All (λ (b : Block). length b.ops ≤ most) unit.whole
+      short_lists = λ k d low.
+          let b = get_or unit.whole k d in
+          let at = listed b (Contains-get_or unit.whole k d low) in
+          short_ops at.0 b at.1
+
       block_low : (w : ℕ) → most + 3 ≤ w → (part : Part) (k : ℕ) (b : Block) → IsBlock unit part k b → block_cost one_each b ≤ allowed w (rest_of unit) part k b
       block_low w wide (Some p) k b is = no_proc p is.0
       block_low w wide None k b is = by_test (b.at == 0)
@@ -366,6 +373,9 @@ made_in_form most lifting plain code unit up above lowered procs h = in_form mos
 
 pub made_well_shaped : (most : ℕ) (lifting : Lifting) → IsPlain most lifting → (code : List Place) (unit : CodeUnit) → IsStrictlyIncreasing (addresses_of code) → ((p : Place) → Contains code p → p.at ≢ 0) → unit.lowered ≡ false → unit.procs ≡ [] → AreBlocksOf lifting code unit.whole → IsWellShaped unit
 made_well_shaped most lifting plain code unit up above lowered procs h = well_shaped most lifting plain code h.blocks h.further h.made up above unit lowered procs h.whole_is
+
+pub made_short_lists : (most : ℕ) (lifting : Lifting) → IsPlain most lifting → (code : List Place) (unit : CodeUnit) → IsStrictlyIncreasing (addresses_of code) → ((p : Place) → Contains code p → p.at ≢ 0) → unit.lowered ≡ false → unit.procs ≡ [] → AreBlocksOf lifting code unit.whole → All (λ (b : Block). length b.ops ≤ most) unit.whole
+made_short_lists most lifting plain code unit up above lowered procs h = short_lists most lifting plain code h.blocks h.further h.made up above unit lowered procs h.whole_is
 
 pub made_bounds : (most w : ℕ) → most + 3 ≤ w → (lifting : Lifting) → IsPlain most lifting → (code : List Place) (unit : CodeUnit) → IsStrictlyIncreasing (addresses_of code) → ((p : Place) → Contains code p → p.at ≢ 0) → unit.lowered ≡ false → unit.procs ≡ [] → AreBlocksOf lifting code unit.whole → BoundsTurns one_each w (rest_of unit) unit
 made_bounds most w wide lifting plain code unit up above lowered procs h = bounds most lifting plain code h.blocks h.further h.made up above unit lowered procs h.whole_is w wide

@@ -1,6 +1,6 @@
 -- What a turn of the unit of a whole program takes: the longest list has 48 operations, and with its exit, the test of a repeat and a
 -- jump behind it 51 steps are the most. All of this is own.
-use Rattle.std.specs.Prelude.{◌≡◌, ℕ, ◌+◌, slice_get, Option, Some, None}
+use Rattle.std.specs.Prelude.{◌≡◌, ℕ, ◌+◌, ◌≤◌, length, slice_get, All, Option, Some, None}
 use Rattle.flag_ir.specs.declared.block.Block.{Block}
 use Rattle.flag_ir.specs.declared.block.Exit.{Exit}
 use Rattle.flag_ir.specs.declared.block.Exit.TheVariants as exit
@@ -10,6 +10,10 @@ use Rattle.flag_ir.specs.Costs.{one_each, block_cost}
 
 abbrev pub longest_list : ℕ
 longest_list = 48
+
+-- no block has more operations, also none of those without an address
+abbrev pub HasShortLists : CodeUnit → Type 0
+HasShortLists unit = All (λ (b : Block). length b.ops ≤ longest_list) unit.whole
 
 abbrev pub whole_weight : ℕ
 whole_weight = 51

@@ -7,7 +7,7 @@ ghost use Rattle.lift_core.specs.Whole.{IsWholeBy};
 ghost use Rattle.whole_code.specs.Building.{lifting_of_places};
 ghost use Rattle.whole_code.specs.Above.{NoneAtZero};
 ghost use Rattle.whole_code.specs.OneStack.{IsOneStackOf};
-ghost use Rattle.whole_code.specs.Weight.{rest_of, whole_weight};
+ghost use Rattle.whole_code.specs.Weight.{HasShortLists, rest_of, whole_weight};
 
 use crate::build::all_blocks;
 use crate::one_stack_law;
@@ -25,6 +25,7 @@ pub fn whole(alloc: Global, found: &Found) -> Result<Unit, AllocError>
     ensures form { IfOk result IsInForm }
     ensures shape { IfOk result IsWellShaped }
     ensures one_stack { IfOk result (λ unit. IsOneStackOf found.now unit) }
+    ensures short { IfOk result HasShortLists }
     ensures weight { IfOk result (λ unit. BoundsTurns one_each whole_weight (rest_of unit) unit) }
 {
     lifting_laws();

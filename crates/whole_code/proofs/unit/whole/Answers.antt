@@ -5,7 +5,7 @@ use Rattle.whole_code.specs.Building.{lifting_of_places, AreBlocksOf}
 use Rattle.whole_code.specs.Weight.{longest_list, whole_weight}
 use Rattle.whole_code.proofs.PlainPlaces.{plain_places}
 use Rattle.whole_code.proofs.WholeUnit.{is_whole}
-use Rattle.whole_code.proofs.Shapes.{made_in_form, made_well_shaped, made_bounds}
+use Rattle.whole_code.proofs.Shapes.{made_in_form, made_well_shaped, made_short_lists, made_bounds}
 use Rattle.whole_code.proofs.OfImage.{lifted_of_image}
 use Rattle.whole_code.proofs.unit.whole.Goals as goal
 
@@ -22,6 +22,11 @@ returns-clause-form c =
 pub returns-clause-shape : goal.returns-clause-shape
 returns-clause-shape c =
     made_well_shaped longest_list lifting_of_places (plain_places c.lifting_laws.ensures) c.args.found.now.code _ c.ascends.ensures.by_place c.requires refl (c.new-3.ensures ∙ c.new-2.ensures.items)
+    (subst (λ (l : List Block). AreBlocksOf lifting_of_places c.args.found.now.code l) (sym c.new.ensures) c.in_ok-blocks.ensures)
+
+pub returns-clause-short : goal.returns-clause-short
+returns-clause-short c =
+    made_short_lists longest_list lifting_of_places (plain_places c.lifting_laws.ensures) c.args.found.now.code _ c.ascends.ensures.by_place c.requires refl (c.new-3.ensures ∙ c.new-2.ensures.items)
     (subst (λ (l : List Block). AreBlocksOf lifting_of_places c.args.found.now.code l) (sym c.new.ensures) c.in_ok-blocks.ensures)
 
 pub returns-clause-weight : goal.returns-clause-weight
