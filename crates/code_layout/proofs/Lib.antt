@@ -1,4 +1,5 @@
 mod Spans
 mod Pages
+mod CodeSegments
 mod Places
 pub mod Laying

@@ -1,19 +1,17 @@
 -- The span of the old code.
-use Rattle.std.proofs.Common.{◌≡◌, ℕ, ◌+◌, ◌-◌, ◌<◌, ◌≤◌, ◌&&◌, Bool, true, false, max, min, cond, List, [], ◌∷◌, map, filter, length, drop, get_or, All, refl, sym, ap, ◌∙◌, subst, arith}
+use Rattle.std.proofs.Common.{◌≡◌, ℕ, ◌+◌, ◌-◌, ◌<◌, ◌≤◌, ◌&&◌, Bool, true, false, max, min, cond, List, [], ◌∷◌, map, filter, All, refl, sym, ap, ◌∙◌, subst, arith}
 use Rattle.std.proofs.lemmas.Bool.{and_parts}
-use Rattle.std.proofs.lemmas.List.{at_drop_more, at_drop_all}
 use Rattle.std.proofs.lemmas.List.Elements.{All-head, All-tail, All-filter}
 use Rattle.std.specs.List.{AllByRecursion, list_any}
 use Rattle.image.specs.declared.image.Segment.{Segment}
 use Rattle.image.specs.declared.room.Room.TheVariants.{Source}
 use Rattle.image.specs.Rooms.{greatest, least, room_end}
-use Rattle.image.specs.Wanted.{FitsWideRoom, HasItsPlace, segment_end, is_code, is_code_at, span_of_code}
+use Rattle.image.specs.Wanted.{HasItsPlace, segment_end, is_code, is_code_at, span_of_code}
 use Rattle.laid_image.specs.NewImage.{FitsSourceRoom}
 use Rattle.code_layout.specs.Layouts.{span_start, start_of}
 
 abbrev codes : List Segment → List Segment
 codes segments = filter is_code segments
-
 
 -- ---- it ends below 2^32
 module _ (segments : List Segment) (entry : ℕ) (fits : FitsSourceRoom segments entry) where
@@ -53,54 +51,3 @@ some_spans entry (s ∷ ss) each some = by (is_code s) refl (λ held. some_spans
 
 pub span_is_some : (segments : List Segment) (entry : ℕ) → FitsSourceRoom segments entry → 0 < span_of_code segments
 span_is_some segments entry fits = let some = some_spans entry segments fits.wide.each fits.wide.entered in omega (arith, some)
-
--- ---- as they are computed, one segment after the other
-pub greatest_more : (ss : List Segment) (i : ℕ) (s : Segment) → i < length ss → s ≡ get_or ss i s
-    → greatest (map segment_end (codes (drop i ss))) ≡ cond (is_code s) (max (segment_end s) (greatest (map segment_end (codes (drop (i + 1) ss))))) (greatest (map segment_end (codes (drop (i + 1) ss))))
-greatest_more ss i s within is =
-    at_drop_more (λ xs. greatest (map segment_end (codes xs))) ss i s within
-    ∙ (ap (λ (t : Segment). greatest (map segment_end (codes (t ∷ drop (i + 1) ss)))) (sym is) ∙ by (is_code s) refl)
-  where
-    by : (b : Bool) → is_code s ≡ b → greatest (map segment_end (codes (s ∷ drop (i + 1) ss))) ≡ cond (is_code s) (max (segment_end s) (greatest (map segment_end (codes (drop (i + 1) ss))))) (greatest (map segment_end (codes (drop (i + 1) ss))))
-    by true e = rw e refl
-    by false e = rw e refl
-
-pub greatest_none : (ss : List Segment) (i : ℕ) → length ss ≤ i → greatest (map segment_end (codes (drop i ss))) ≡ 0
-greatest_none ss i past = at_drop_all (λ xs. greatest (map segment_end (codes xs))) ss i past
-
-least_joined : (x y : ℕ) (ys : List ℕ) → least (x ∷ y ∷ ys) ≡ least (min x y ∷ ys)
-least_joined x y [] = refl
-least_joined x y (z ∷ zs) = omega arith
-
-pub least_more : (ss : List Segment) (i a : ℕ) (s : Segment) → i < length ss → s ≡ get_or ss i s
-    → least (a ∷ map start_of (codes (drop i ss))) ≡ least (cond (is_code s) (min a s.start) a ∷ map start_of (codes (drop (i + 1) ss)))
-least_more ss i a s within is =
-    at_drop_more (λ xs. least (a ∷ map start_of (codes xs))) ss i s within
-    ∙ (ap (λ (t : Segment). least (a ∷ map start_of (codes (t ∷ drop (i + 1) ss)))) (sym is) ∙ by (is_code s) refl)
-  where
-    by : (b : Bool) → is_code s ≡ b → least (a ∷ map start_of (codes (s ∷ drop (i + 1) ss))) ≡ least (cond (is_code s) (min a s.start) a ∷ map start_of (codes (drop (i + 1) ss)))
-    by true e = rw e (least_joined a s.start (map start_of (codes (drop (i + 1) ss))))
-    by false e = rw e refl
-
-pub least_none : (ss : List Segment) (i a : ℕ) → length ss ≤ i → least (a ∷ map start_of (codes (drop i ss))) ≡ a
-least_none ss i a past = at_drop_all (λ xs. least (a ∷ map start_of (codes xs))) ss i past
-
--- a greatest number in front makes no difference
-front_is_none : (ss : List Segment) → least (map start_of ss) < greatest (map segment_end ss) → least (map start_of ss) ≤ 4294967295 → least (4294967295 ∷ map start_of ss) ≡ least (map start_of ss)
-front_is_none [] some low = absurd (omega (arith, some))
-front_is_none (s ∷ ss) some low = omega (arith, low)
-
-least_low : (x : ℕ) (xs : List ℕ) → least (x ∷ xs) ≤ x
-least_low x [] = omega arith
-least_low x (y ∷ ys) = omega arith
-
-starts_low : (ss : List Segment) → AllByRecursion HasItsPlace ss → least (map start_of (codes ss)) ≤ 4294967295
-starts_low [] each = omega arith
-starts_low (s ∷ ss) each = by (is_code s) refl (starts_low ss each.1)
-  where
-    by : (b : Bool) → is_code s ≡ b → least (map start_of (codes ss)) ≤ 4294967295 → least (map start_of (codes (s ∷ ss))) ≤ 4294967295
-    by true e rest = rw e (let low = least_low s.start (map start_of (codes ss)) in let to = each.0.to in omega (arith, low, to))
-    by false e rest = rw e rest
-
-pub start_is_least : (segments : List Segment) (entry : ℕ) → FitsWideRoom segments entry → least (4294967295 ∷ map start_of (codes segments)) ≡ span_start segments
-start_is_least segments entry fits = front_is_none (codes segments) (some_spans entry segments fits.each fits.entered) (starts_low segments fits.each)

@@ -1,18 +1,27 @@
 // The segments of a written file.
-ghost use Rattle.std.specs.Prelude.{◌≡◌, ◌+◌, ◌*◌, ◌%◌, ◌<◌, ◌≤◌, ◌++◌, [], length, map, IfOk};
-ghost use Rattle.laid_image.specs.NewImage.{as_data, whole_pages, in_pages, new_segments, own_segment, own_segments, words_bytes, HasNewRoom};
+ghost use Rattle.std.specs.Prelude.{◌≡◌, ◌*◌, ◌<◌, ◌≤◌, [], length, map, IfOk};
+ghost use Rattle.image.specs.Wanted.{HasItsPlace};
+ghost use Rattle.code_text.specs.KeptPlaces.{code_start, table_start};
+ghost use Rattle.laid_image.specs.NewImage.{whole_pages, in_pages, as_data, own_segment, words_bytes, new_segments, HasNewRoom};
 
-use byte_lists::{ByteList, push_word};
+use byte_lists::{ByteList, push_words};
 use image::{Image, Perm, Segment, SegmentList, has_its_place};
 use std::alloc::{AllocError, Global};
 
-/// An old segment, without PF_X.
+/// Where new code begins.
+const CODE_START: u32 = 0x6000_0000;
+
+/// Where the address table begins.
+const TABLE_START: u32 = 0x7400_0000;
+
+/// A segment of the same pages with the same bytes, which can't be run.
 #[tactic(auto, using(crate::proofs::Places::data_place))]
 fn as_data(alloc: Global, segment: &Segment) -> Result<Segment, AllocError>
     ensures { IfOk result (λ made. made ≡ as_data segment.now) }
 {
     has_its_place(segment);
-    let bytes = Vec::from_slice(alloc, segment.bytes.as_slice())?;
+    let mut bytes = Vec::with_capacity(alloc, segment.bytes.len())?;
+    bytes.extend_from_slice(segment.bytes.as_slice())?;
     Ok(Segment {
         start: segment.start,
         size: segment.size,
@@ -21,12 +30,13 @@ fn as_data(alloc: Global, segment: &Segment) -> Result<Segment, AllocError>
     })
 }
 
-fn data_segments(alloc: Global, old: &[Segment]) -> Result<Vec<Segment>, AllocError>
-    ensures { IfOk result (λ made. made.items ≡ map as_data old.now) }
+fn all_as_data(alloc: Global, old: &[Segment]) -> Result<Vec<Segment>, AllocError>
+    ensures { IfOk result (λ segments. segments.items ≡ map as_data old.now) }
 {
-    let mut segments = Vec::new(alloc);
+    let mut segments = Vec::with_capacity(alloc, old.len())?;
     for segment in old {
-        segments.push(as_data(alloc, segment)?)?;
+        let data = as_data(alloc, segment)?;
+        segments.push(data)?;
     }
     Ok(segments)
 }
@@ -42,52 +52,37 @@ fn in_pages(bytes: Vec<u8>) -> Result<Vec<u8>, AllocError>
     Ok(pages)
 }
 
-fn words_bytes(alloc: Global, words: &[u32]) -> Result<Vec<u8>, AllocError>
-    ensures { IfOk result (λ bytes. bytes.items ≡ words_bytes words.now) }
+/// The segment of these bytes, which can't be written.
+#[tactic(auto, using(crate::proofs::Pages::length_in_pages))]
+fn bytes_segment(start: u32, perm: Perm, bytes: Vec<u8>) -> Result<Segment, AllocError>
+    requires few { length bytes.items ≤ 0x14000000 }
+    requires place { HasItsPlace (own_segment start (whole_pages (length bytes.items)) perm.0 (in_pages bytes.items)) }
+    ensures { IfOk result (λ segment. segment ≡ own_segment start (whole_pages (length bytes.items)) perm.0 (in_pages bytes.items)) }
 {
-    let mut bytes = Vec::new(alloc);
-    for word in words {
-        push_word(&mut bytes, *word)?;
-    }
-    Ok(bytes)
-}
-
-#[tactic(auto, using(crate::proofs::Places::code_place))]
-fn code_segment(code: Vec<u8>) -> Result<Segment, AllocError>
-    requires some { 1 ≤ length code.items }
-    requires few { whole_pages (length code.items) ≤ 0x14000000 }
-    ensures { IfOk result (λ made. made ≡ own_segment 0x60000000 (whole_pages (length code.items)) 5 (in_pages code.items)) }
-{
-    let pages = in_pages(code)?;
+    let pages = in_pages(bytes)?;
     Ok(Segment {
-        start: 0x6000_0000,
+        start,
         size: pages.len() as u32,
-        perm: Perm(5),
+        perm,
         bytes: ByteList::new(pages),
     })
 }
 
+/// The segment of the words of the address table.
+#[tactic(auto, using(crate::proofs::Places::length_words))]
 fn table_segment(alloc: Global, words: &[u32]) -> Result<Segment, AllocError>
     requires some { 0 < length words.now }
     requires few { 4 * length words.now ≤ 0x1000000 }
-    ensures { IfOk result (λ made. made ≡ own_segment 0x74000000 (whole_pages (4 * length words.now)) 4 (in_pages (words_bytes words.now))) }
+    ensures { IfOk result (λ segment. segment ≡ own_segment table_start (whole_pages (4 * length words.now)) 4 (in_pages (words_bytes words.now))) }
 {
-    let pages = in_pages(words_bytes(alloc, words)?)?;
-    Ok(Segment {
-        start: 0x7400_0000,
-        size: pages.len() as u32,
-        perm: Perm(4),
-        bytes: ByteList::new(pages),
-    })
+    let mut bytes = Vec::with_capacity(alloc, 4 * words.len())?;
+    push_words(&mut bytes, words)?;
+    bytes_segment(TABLE_START, Perm(4), bytes)
 }
 
-/// Zeros that can be written.
+/// A segment of zeros, which can be read and written.
 fn zero_segment(alloc: Global, start: u32, size: u32) -> Segment
-    requires start_in_pages { start % 4096 ≡ 0 }
-    requires size_in_pages { size % 4096 ≡ 0 }
-    requires from { 0x75000000 ≤ start }
-    requires sized { 0 < size }
-    requires to { start + size ≤ 0x7C000000 }
+    requires { HasItsPlace (own_segment start size 6 []) }
     ensures { result ≡ own_segment start size 6 [] }
 {
     Segment {
@@ -98,34 +93,23 @@ fn zero_segment(alloc: Global, start: u32, size: u32) -> Segment
     }
 }
 
-fn own_segments(alloc: Global, code: Vec<u8>, words: &[u32]) -> Result<Vec<Segment>, AllocError>
-    requires some { 1 ≤ length code.items }
-    requires room { HasNewRoom (whole_pages (length code.items)) (in_pages code.items) words.now }
-    ensures { IfOk result (λ own. own.items ≡ own_segments (whole_pages (length code.items)) (in_pages code.items) words.now) }
-{
-    let code = code_segment(code)?;
-    let table = table_segment(alloc, words)?;
-    let cells = zero_segment(alloc, 0x7500_0000, 0x80_0000);
-    let variables = zero_segment(alloc, 0x7600_0000, 0x300_0000);
-    let frames = zero_segment(alloc, 0x7900_0000, 0x300_0000);
-    Ok(Vec::from_array(alloc, [code, table, cells, variables, frames])?)
-}
-
 /// The old segments, of which none can be run, and behind them the new code, the table of these words, the cells, the variables and the
 /// images of frames.
-#[tactic(auto, using(crate::proofs::Places::new_ones))]
+#[tactic(auto, using(crate::proofs::Places::code_place, crate::proofs::Places::joined), unfolding(laid_image::specs::NewImage::new_segments))]
 pub(crate) fn new_segments(
     alloc: Global,
     image: &Image,
     code: Vec<u8>,
     words: &[u32],
 ) -> Result<SegmentList, AllocError>
-    requires some { 1 ≤ length code.items }
     requires room { HasNewRoom (whole_pages (length code.items)) (in_pages code.items) words.now }
     ensures { IfOk result (λ segments. segments ≡ new_segments image.now.segments (whole_pages (length code.items)) (in_pages code.items) words.now) }
 {
-    let mut own = own_segments(alloc, code, words)?;
-    let mut segments = data_segments(alloc, image.segments.as_slice())?;
-    segments.append(&mut own)?;
+    let mut segments = all_as_data(alloc, image.segments.as_slice())?;
+    segments.push(bytes_segment(CODE_START, Perm(5), code)?)?;
+    segments.push(table_segment(alloc, words)?)?;
+    segments.push(zero_segment(alloc, 0x7500_0000, 0x80_0000))?;
+    segments.push(zero_segment(alloc, 0x7600_0000, 0x300_0000))?;
+    segments.push(zero_segment(alloc, 0x7900_0000, 0x300_0000))?;
     Ok(SegmentList::new(segments))
 }

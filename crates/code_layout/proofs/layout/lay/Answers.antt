@@ -22,10 +22,7 @@ new_segments-requires c =
     let image = c.args.image.now in
     let l = places_in c.in_ok-places.places in
     let some = some_text l code_start c.esp_cell-cell.result c.image.inside.entry (placed_blocks placed) in
-    let text = c.in_ok-code.ensures.text in
-    let long = ap length text in
     record {
-      some = omega (arith, some, long);
       room = new_room placed image c.requires c.in_ok-code.code.items c.words.result.now
           (subst (λ (code : List ℕ). 2 ≤ length code) (sym c.in_ok-code.ensures.text) some) c.in_ok-code.ensures.few
           (c.words.ensures.all ∙ (c.in_ok-places.ensures.count ∙ c.code_span-span.ensures.count));

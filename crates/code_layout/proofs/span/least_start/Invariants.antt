@@ -1,8 +1,6 @@
-use Rattle.std.proofs.Common.{◌≡◌, ◌∷◌, map, filter, drop}
-use Rattle.image.specs.Rooms.{least}
-use Rattle.image.specs.Wanted.{is_code}
-use Rattle.code_layout.specs.Layouts.{start_of}
+use Rattle.std.proofs.Common.{◌≡◌, None, drop}
+use Rattle.code_layout.proofs.CodeSegments.{least_with}
 use Rattle.code_layout.proofs.span.least_start.Given as goal
 
 abbrev pub invariant-loop-segment : goal.invariant-loop-segment
-invariant-loop-segment l = least (l.start ∷ map start_of (filter is_code (drop l.segment-index l.segments))) ≡ least (4294967295 ∷ map start_of (filter is_code l.segments))
+invariant-loop-segment l = least_with l.least (drop l.segment-index l.segments) ≡ least_with None l.segments

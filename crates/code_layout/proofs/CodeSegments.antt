@@ -4,11 +4,12 @@ use Rattle.std.proofs.lemmas.List.{at_drop_more, at_drop_all}
 use Rattle.image.specs.declared.image.Segment.{Segment}
 use Rattle.image.specs.Rooms.{greatest, least}
 use Rattle.image.specs.Wanted.{is_code, segment_end}
+use Rattle.code_layout.specs.Layouts.{start_of}
 
 -- the least start of what has been looked at, and that of what has not
 abbrev pub least_with : Option ℕ → List Segment → ℕ
-least_with None ss = least (map (λ (s : Segment). s.start) (filter is_code ss))
-least_with (Some a) ss = least (a ∷ map (λ (s : Segment). s.start) (filter is_code ss))
+least_with None ss = least (map start_of (filter is_code ss))
+least_with (Some a) ss = least (a ∷ map start_of (filter is_code ss))
 
 abbrev pub greatest_with : ℕ → List Segment → ℕ
 greatest_with a ss = max a (greatest (map segment_end (filter is_code ss)))
@@ -20,7 +21,7 @@ least_joined x y (z ∷ zs) = omega arith
 
 -- ---- one more segment, which can be run or not
 first_least : (a : ℕ) (s : Segment) (ss : List Segment) → is_code s ≡ true → least_with (Some a) (s ∷ ss) ≡ least_with (Some (min a s.start)) ss
-first_least a s ss e = rw e (least_joined a s.start (map (λ (t : Segment). t.start) (filter is_code ss)))
+first_least a s ss e = rw e (least_joined a s.start (map start_of (filter is_code ss)))
 
 first_only : (s : Segment) (ss : List Segment) → is_code s ≡ true → least_with None (s ∷ ss) ≡ least_with (Some s.start) ss
 first_only s ss e = rw e refl

@@ -1,6 +1,0 @@
-use Rattle.std.proofs.Common.{◌≡◌, map, take}
-use Rattle.laid_image.specs.NewImage.{as_data}
-use Rattle.code_layout.proofs.segments.data_segments.Given as goal
-
-abbrev pub invariant-loop-segment : goal.invariant-loop-segment
-invariant-loop-segment l = l.segments.items ≡ map as_data (take l.segment-index l.old)

@@ -1,3 +1,0 @@
-pub mod CodeSegments
-pub mod Pages
-pub mod Places

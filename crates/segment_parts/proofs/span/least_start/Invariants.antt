@@ -1,6 +1,0 @@
-use Rattle.std.proofs.Common.{◌≡◌, None, drop}
-use Rattle.segment_parts.proofs.CodeSegments.{least_with}
-use Rattle.segment_parts.proofs.span.least_start.Given as goal
-
-abbrev pub invariant-loop-segment : goal.invariant-loop-segment
-invariant-loop-segment l = least_with l.least (drop l.segment-index l.segments) ≡ least_with None l.segments

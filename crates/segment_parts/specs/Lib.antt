@@ -1,3 +1,0 @@
-pub mod KeptPlaces
-pub mod NewImage
-pub mod Layouts
