@@ -52,7 +52,7 @@ fn in_pages(bytes: Vec<u8>) -> Result<Vec<u8>, AllocError>
     Ok(pages)
 }
 
-/// The segment of these bytes, which can't be written.
+/// A segment of these bytes, with zeros up to the end of its last page.
 #[tactic(auto, using(crate::proofs::Pages::length_in_pages))]
 fn bytes_segment(start: u32, perm: Perm, bytes: Vec<u8>) -> Result<Segment, AllocError>
     requires few { length bytes.items ≤ 0x14000000 }
