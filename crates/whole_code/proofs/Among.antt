@@ -1,8 +1,7 @@
 -- Found places and the blocks of their addresses.
-use Rattle.std.proofs.Common.{◌≡◌, ◌≢◌, ◌⊎◌, ℕ, suc, zero, ◌+◌, ◌<◌, ◌≤◌, ◌==◌, Bool, true, false, cond, List, [], ◌∷◌, map, length, find, get_or, Contains, Option, Some, None, is_some, refl, sym, ap, ◌∙◌, subst, inl, inr, arith}
+use Rattle.std.proofs.Common.{◌≡◌, ◌≢◌, ◌⊎◌, ℕ, suc, zero, ◌<◌, ◌≤◌, ◌==◌, Bool, true, false, cond, List, [], ◌∷◌, map, length, find, Contains, Option, Some, None, is_some, refl, sym, ◌∙◌, subst, inl, inr, arith}
 use Rattle.std.specs.List.{slice_get, position}
 use Rattle.std.proofs.lemmas.Bool.{eqb-true, eq-eqb}
-use Rattle.std.proofs.lemmas.List.{get_or-map, length-map}
 use Rattle.std.proofs.lemmas.List.Elements.{Contains-append_right}
 use Rattle.std.proofs.lemmas.List.Quantifiers.{position-Some}
 use Rattle.std.proofs.lemmas.Option.{slice_get_cases, get_or_from_slice_get}
@@ -13,7 +12,7 @@ use Rattle.plan_types.specs.declared.place.Place.{Place}
 use Rattle.plan_types.specs.Contents.{FoundContents}
 use Rattle.plan_types.specs.Body.{HasPlace}
 use Rattle.cut_run.specs.CutRun.{is_place}
-use Rattle.lift_core.specs.Whole.{Lifting, HasBlock, IsWholeBy}
+use Rattle.lift_core.specs.Whole.{Lifting, IsWholeBy}
 
 -- ---- lists
 none_in : {X : Type 0} (x : X) → Contains [] x → ⊥

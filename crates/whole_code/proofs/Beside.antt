@@ -1,21 +1,20 @@
 -- The unit of a whole program beside the cut run.
-use Rattle.std.proofs.Common.{◌≡◌, ◌≢◌, ◌⊎◌, ℕ, suc, zero, ◌+◌, ◌*◌, ◌<◌, ◌≤◌, ◌==◌, Bool, true, false, cond, List, [], ◌∷◌, ◌++◌, length, Option, Some, None, Result, Ok, Err, refl, sym, ap, ◌∙◌, subst, subst₂, inl, inr, arith}
+use Rattle.std.proofs.Common.{◌≡◌, ◌≢◌, ◌⊎◌, ℕ, suc, zero, ◌+◌, ◌≤◌, ◌==◌, Bool, true, false, cond, List, [], ◌∷◌, ◌++◌, length, Option, Some, None, Result, Ok, Err, refl, sym, ap, ◌∙◌, subst, subst₂, inl, inr, arith}
 use Rattle.std.specs.List.{slice_get}
 use Rattle.std.proofs.lemmas.List.{append-nil}
 use Rattle.x86_values.specs.Words.{IsWord, word_of, known}
 use Rattle.x86_values.specs.WordLaws.{WordLaws}
 use Rattle.x86_values.specs.LessSpecifiedLaws.{LessSpecifiedLaws}
-use Rattle.x86_values.specs.LessSpecified.{WordLessSpecified}
 use Rattle.outside.specs.Environment.{Environment, IsEnvironment}
 use Rattle.traces.specs.Trace as trace
 use Rattle.traces.specs.Trace.{Label, Turn, GuardKind, End, Unspecified, Guard, Stopped, Seen, seen, before, Move, Stand, Go, Halt, run, turns, events}
 use Rattle.traces.specs.Turns.{RefinesCut}
 use Rattle.traces.specs.Weight.{Paced, OneEvent, StartsWithNoMore, Ticks}
 use Rattle.traces.specs.Steps.{Goes}
-use Rattle.traces.specs.Machines.{Cut, UnturnedCut, marked, turned, guarded, unless}
+use Rattle.traces.specs.Machines.{UnturnedCut, marked, guarded, unless}
 use Rattle.traces.specs.Moves.{Unturned}
 use Rattle.traces.specs.Simulation.{Paired}
-use Rattle.traces.specs.Meeting.{OnBoth, EndBoth, SeenRefinesCut, Meets}
+use Rattle.traces.specs.Meeting.{OnBoth, EndBoth, SeenRefinesCut}
 use Rattle.traces.specs.MeetingLaws.{MeetingLaws}
 use Rattle.traces.specs.MoveLaws.{MoveLaws}
 use Rattle.traces.specs.RunLaws.{RunLaws}
@@ -32,28 +31,26 @@ use Rattle.x86_meaning.specs.Step.{State}
 use Rattle.x86_meaning.specs.StepLaws.{StepLaws, StateLaws}
 use Rattle.x86_meaning.specs.Run.{IsStart, start_over, first_registers, machine, run_from}
 use Rattle.x86_meaning.specs.RunLaws.{ProgramLaws}
-use Rattle.plan_types.specs.declared.place.Place.{Place}
 use Rattle.plan_types.specs.Contents.{FoundContents}
 use Rattle.flag_ir.specs.declared.operation.Op.{Op}
 use Rattle.flag_ir.specs.declared.block.Block.{Block}
 use Rattle.flag_ir.specs.declared.block.Exit.{Exit}
 use Rattle.flag_ir.specs.Storage.{Storage}
 use Rattle.flag_ir.specs.Operations.{perform, shown_by}
-use Rattle.flag_ir.specs.Entering.{CodeUnit, Onward, before_block, index_at, jump, leave, blocks_of}
+use Rattle.flag_ir.specs.Entering.{CodeUnit, Onward, before_block, index_at, leave, blocks_of}
 use Rattle.flag_ir.specs.UnitRun.{Point, Before, Within, Over, UnitState, state_at, performed, left_for, within, fresh, next, entered, first_storage, first_state, unit_run}
 use Rattle.flag_ir.specs.UnitLaws.{UnitLaws}
-use Rattle.flag_ir.specs.PassLaws.{PassLaws, HasWeight}
+use Rattle.flag_ir.specs.PassLaws.{PassLaws}
 use Rattle.flag_ir.specs.Shape.{IsWellShaped}
 use Rattle.lift_relation.specs.Matching.{StateMatches, MoveMatches, Lifted}
-use Rattle.lift_core.specs.declared.way.Way.{Way}
 use Rattle.lift_core.specs.Lifting.{lifted, shown_lifted}
 use Rattle.lift_core.specs.Whole.{Lifting, HasBlock, IsWholeBy}
 use Rattle.cut_run.specs.CutRun.{is_place, code_event, cut_at, event_at, cut_machine, cut_run_over}
 use Rattle.whole_code.specs.OneStack.{IsLifted, IsOneStack, WholeIsOneStack}
 use Rattle.whole_code.specs.Pairs.{Pair}
 use Rattle.whole_code.proofs.Quiet.{quiet_halt, unturned_step}
-use Rattle.whole_code.proofs.Among.{PlaceAt, place_at, IsBlockAt, block_at, no_block}
-use Rattle.whole_code.proofs.UnitSide.{Arrives, ArrivesBy, ArrivesAt, EndsWith, jump_is}
+use Rattle.whole_code.proofs.Among.{PlaceAt, place_at, block_at, no_block}
+use Rattle.whole_code.proofs.UnitSide.{Arrives, ArrivesBy, EndsWith, jump_is}
 use Rattle.whole_code.proofs.Blocks.{Does, does}
 
 pub record LawsBelow : Type 0 where

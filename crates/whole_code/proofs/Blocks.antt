@@ -1,10 +1,10 @@
 -- What a unit does from within the block of an instruction is what the list and the way come to.
-use Rattle.std.proofs.Common.{◌≡◌, ◌⊎◌, ℕ, suc, zero, ◌+◌, ◌<◌, ◌==◌, Bool, true, false, cond, List, [], ◌∷◌, ◌++◌, length, Option, Some, None, Result, Ok, Err, refl, sym, ap, ◌∙◌, subst, inl, inr, arith}
+use Rattle.std.proofs.Common.{◌≡◌, ℕ, suc, zero, ◌<◌, ◌==◌, true, false, cond, List, [], ◌++◌, Option, Some, None, Result, Ok, Err, refl, sym, ap, ◌∙◌, subst, arith}
 use Rattle.std.specs.List.{slice_get}
 use Rattle.std.proofs.lemmas.Bool.{eqb-true}
 use Rattle.x86_values.specs.Words.{known}
 use Rattle.x86_values.specs.WordLaws.{WordLaws}
-use Rattle.traces.specs.Trace.{Label, End, Unspecified, Move, run}
+use Rattle.traces.specs.Trace.{Label, End, Unspecified}
 use Rattle.traces.specs.RunLaws.{RunLaws}
 use Rattle.flag_ir.specs.declared.variable.Term.{Term}
 use Rattle.flag_ir.specs.declared.operation.Op.{Op}
@@ -21,7 +21,7 @@ use Rattle.lift_core.specs.declared.way.Way.TheVariants as way
 use Rattle.lift_core.specs.Lifting.{goes_to, listed, lifted, shown_lifted, unless_counted, shown_if_counted}
 use Rattle.lift_core.specs.Whole.{LeadsTo, BranchesTo, Repeats, HasWay}
 use Rattle.whole_code.specs.OneStack.{HasAddresses}
-use Rattle.whole_code.proofs.UnitSide.{Arrives, ArrivesBy, ArrivesAt, EndsWith, list_ends, list_leads, list_branches, list_jumps, list_leads_by_number, leave_branch, leave_unknown, jump_unknown, exit_ends, exit_goes, branch_is, after_goes, ends_after}
+use Rattle.whole_code.proofs.UnitSide.{Arrives, ArrivesBy, EndsWith, list_ends, list_leads, list_branches, list_jumps, list_leads_by_number, leave_branch, leave_unknown, jump_unknown, exit_ends, exit_goes, branch_is, after_goes, ends_after}
 
 ok_is : {A B : Type 0} (x y : A) → (let r : Result A B = Ok x in r) ≡ Ok y → x ≡ y
 ok_is x y e = cc

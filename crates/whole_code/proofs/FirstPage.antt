@@ -1,10 +1,10 @@
 -- No instruction of an image that fits the wide room stands at address 0.
-use Rattle.std.proofs.Common.{◌≡◌, ◌≢◌, ℕ, ◌≤◌, Bool, true, false, cond, List, [], ◌∷◌, find, Contains, Option, Some, None, refl, sym, ap, ◌∙◌, subst, arith}
+use Rattle.std.proofs.Common.{◌≡◌, ◌≢◌, ℕ, ◌≤◌, Bool, true, false, cond, List, [], ◌∷◌, find, Contains, Option, Some, None, refl, ap, subst, arith}
 use Rattle.std.specs.List.{AllByRecursion}
 use Rattle.std.proofs.lemmas.Bool.Decides.{nat_tests}
 use Rattle.image.specs.declared.image.Image.{Image}
 use Rattle.image.specs.declared.image.Segment.{Segment}
-use Rattle.image.specs.Addresses.{holds, segment_at, code_byte_in, code_byte_at}
+use Rattle.image.specs.Addresses.{holds, segment_at, code_byte_in}
 use Rattle.image.specs.Wanted.{HasItsPlace, FitsWideRoom}
 use Rattle.x86_types.specs.declared.instr.Instr.{Instr}
 use Rattle.x86_code.specs.Code.{code_of}

@@ -7,12 +7,11 @@ use Rattle.flag_ir.specs.declared.block.Block.{Block}
 use Rattle.flag_ir.specs.declared.block.Exit.{Exit}
 use Rattle.flag_ir.specs.declared.block.Exit.TheVariants as exit
 use Rattle.plan_types.specs.declared.place.Place.{Place}
-use Rattle.plan_types.specs.Ascending.{addresses_of}
 use Rattle.lift_core.specs.declared.way.Way.{Way}
 use Rattle.lift_core.specs.declared.way.Way.TheVariants as way
 use Rattle.lift_core.specs.Whole.{Lifting}
-use Rattle.whole_code.specs.Building.{IsJumpNumber, Leads, IsJump, AreTargets, MakesBranch, MakesRepeat, MakesWay, MakesPlace, BranchesOn, IsBehind, IsBody, RepeatsOn, GoesWay, IsBlockOf, IsBodyOf, IsFurther, AreMade}
-use Rattle.whole_code.proofs.Parts.{get_left, get_right, get_last, get_cases, get_only, get_contains, same_got, IsRight}
+use Rattle.whole_code.specs.Building.{Leads, IsJump, MakesBranch, MakesRepeat, MakesWay, MakesPlace, BranchesOn, IsBehind, IsBody, GoesWay, IsBlockOf, IsFurther, AreMade}
+use Rattle.whole_code.proofs.Parts.{get_left, get_right, get_cases, get_only, get_contains, same_got, IsRight}
 use Rattle.whole_code.proofs.Numbering.{leads_more}
 
 -- ---- what was made stays

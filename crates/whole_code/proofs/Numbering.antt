@@ -1,9 +1,9 @@
 -- What the numbers lead to that addresses get.
-use Rattle.std.proofs.Common.{◌≡◌, ℕ, zero, suc, ◌+◌, ◌<◌, ◌⊎◌, List, [], ◌∷◌, ◌++◌, length, slice_get, Some, refl, sym, ap, ◌∙◌, subst, inl, inr, arith}
+use Rattle.std.proofs.Common.{◌≡◌, ℕ, ◌+◌, ◌⊎◌, List, [], ◌∷◌, ◌++◌, length, slice_get, Some, refl, sym, subst, inl, inr, arith}
 use Rattle.flag_ir.specs.declared.block.Block.{Block}
 use Rattle.plan_types.specs.declared.place.Place.{Place}
 use Rattle.lift_core.specs.Whole.{OnlyJumps}
-use Rattle.whole_code.specs.Building.{jump_to, IsOfPlace, IsAdded, GetsNumber, IsJumpNumber, Leads, IsJump, AreTargets}
+use Rattle.whole_code.specs.Building.{jump_to, GetsNumber, Leads, IsJump, AreTargets}
 use Rattle.whole_code.proofs.Parts.{get_left, get_last, get_cases, get_only, IsRight}
 
 -- each block only jumps, and they are numbered from `first` on

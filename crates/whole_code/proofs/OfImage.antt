@@ -1,5 +1,5 @@
 -- The lists and ways of the found code of an image do what its instructions do.
-use Rattle.std.proofs.Common.{ℕ, ◌+◌, ◌<◌, ◌≤◌, Bool, true, false, Contains, arith}
+use Rattle.std.proofs.Common.{ℕ, ◌+◌, ◌<◌, ◌≤◌, Bool, true, false, arith}
 use Rattle.image.specs.declared.image.Image.{Image}
 use Rattle.image.specs.declared.room.Room.TheVariants.{Any}
 use Rattle.image.specs.Rooms.{room_end}

@@ -1,5 +1,5 @@
 -- The lists and the ways of the instructions are plain, by the laws of lifting.
-use Rattle.std.proofs.Common.{ℕ, ◌+◌, ◌≤◌, arith, length}
+use Rattle.std.proofs.Common.{◌≤◌, arith}
 use Rattle.x86_types.specs.declared.instr.Instr.{Instr}
 use Rattle.x86_types.specs.declared.instr.Instr.TheVariants as instr
 use Rattle.lift_core.specs.Laws.{LiftingLaws}

@@ -8,21 +8,20 @@ use Rattle.x86_values.specs.Words.{known}
 use Rattle.traces.specs.Trace.{Label, End, Move, Stand, Go, Halt, turns}
 use Rattle.traces.specs.Moves.{Unturned}
 use Rattle.memory.specs.CallLaws.{CallLaws, IsPlainCall}
-use Rattle.memory.specs.Memory.{Load, Store}
 use Rattle.memory.specs.SystemCall.{Called, Ends, Gives, system_call}
 use Rattle.x86_types.specs.declared.instr.Instr.{Instr}
 use Rattle.x86_types.specs.declared.instr.Instr.TheVariants as instr
 use Rattle.x86_types.specs.declared.operation.AluOp.{AluOp}
 use Rattle.x86_types.specs.declared.operation.AluOp.TheVariants as alu
 use Rattle.x86_meaning.specs.declared.stop.Stop.{Stop}
-use Rattle.x86_meaning.specs.Registers.{Registers, Processor, machine_naming, with_register}
+use Rattle.x86_meaning.specs.Registers.{Registers, machine_naming, with_register}
 use Rattle.x86_meaning.specs.Operands.{Location, InRegister, InMemory, Constant, SizedOperand, values_in}
 use Rattle.x86_meaning.specs.TransferShapes.{Transfer}
 use Rattle.x86_meaning.specs.Transfers.{transfer}
-use Rattle.x86_meaning.specs.Outcomes.{Way, Falls, JumpsBy, JumpsTo, Repeats, Calls, Computation, Computed, on_one, on_two, on_three, alu_computed, goes_to, quotient_and_remainder, movs_computed, stos_computed, jump_computed}
+use Rattle.x86_meaning.specs.Outcomes.{Way, Falls, JumpsBy, JumpsTo, Repeats, Calls, Computation, on_one, on_two, on_three, alu_computed, goes_to, quotient_and_remainder, movs_computed, stos_computed, jump_computed}
 use Rattle.x86_meaning.specs.Computing.{compute}
-use Rattle.x86_meaning.specs.Effect.{Effect, accesses, effect, effect_by, effect_of, all_written, written_to}
-use Rattle.x86_meaning.specs.Step.{State, at_address, settled, settled_by, request_of, after_call, with_result, finish, performed, by_stores, by_effect, by_loads, all_allowed, step}
+use Rattle.x86_meaning.specs.Effect.{Effect, effect, effect_by, effect_of, all_written, written_to}
+use Rattle.x86_meaning.specs.Step.{State, at_address, settled, settled_by, request_of, after_call, finish, performed, by_loads, step}
 use Rattle.x86_meaning.specs.StepLaws.{StepLaws}
 
 -- ---- ways that make no call

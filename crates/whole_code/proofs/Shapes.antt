@@ -1,5 +1,5 @@
 -- The unit of the blocks that are made is in form and well shaped, and its turns are short.
-use Rattle.std.proofs.Common.{◌≡◌, ◌≢◌, ℕ, zero, suc, ◌+◌, ◌<◌, ◌≤◌, ◌⊎◌, ◌==◌, Bool, true, false, cond, List, [], ◌∷◌, ◌++◌, length, get_or, slice_get, All, Contains, Option, Some, None, refl, sym, ap, ◌∙◌, subst, inl, inr, arith}
+use Rattle.std.proofs.Common.{◌≡◌, ◌≢◌, ℕ, zero, suc, ◌+◌, ◌<◌, ◌≤◌, ◌⊎◌, ◌==◌, Bool, true, false, cond, List, [], ◌∷◌, ◌++◌, length, get_or, slice_get, All, Contains, Some, None, refl, sym, ap, ◌∙◌, subst, inl, inr, arith}
 use Rattle.std.specs.List.Sorted.{IsStrictlyIncreasing}
 use Rattle.std.proofs.lemmas.Bool.{eq-eqb, eqb-true, false≢true}
 use Rattle.std.proofs.lemmas.List.Elements.{All-nil, Contains-get_or}
@@ -11,8 +11,8 @@ use Rattle.flag_ir.specs.declared.block.Exit.{Exit}
 use Rattle.flag_ir.specs.declared.block.Exit.TheVariants as exit
 use Rattle.flag_ir.specs.declared.procedure.Proc.{Proc}
 use Rattle.flag_ir.specs.Entering.{CodeUnit, index_of_number}
-use Rattle.flag_ir.specs.Form.{IsTerm, IsOp, IsExit, IsPartInForm, IsFrameless, IsFramelessExit, IsFramelessBlock, IsInForm}
-use Rattle.flag_ir.specs.Shape.{Part, IsPart, named_by, IsBlock, GoesTo, ReturnsTo, IsWellShaped}
+use Rattle.flag_ir.specs.Form.{IsTerm, IsOp, IsExit, IsFrameless, IsFramelessExit, IsFramelessBlock, IsInForm}
+use Rattle.flag_ir.specs.Shape.{Part, named_by, IsBlock, GoesTo, IsWellShaped}
 use Rattle.flag_ir.specs.Costs.{one_each, list_cost, block_cost, allowed, BoundsTurns}
 use Rattle.plan_types.specs.declared.place.Place.{Place}
 use Rattle.plan_types.specs.Ascending.{addresses_of}
@@ -20,9 +20,9 @@ use Rattle.lift_core.specs.declared.way.Way.{Way}
 use Rattle.lift_core.specs.declared.way.Way.TheVariants as way
 use Rattle.lift_core.specs.Laws.{IsWay}
 use Rattle.lift_core.specs.Whole.{Lifting, OnlyJumps}
-use Rattle.whole_code.specs.Building.{IsJumpNumber, Leads, IsJump, GoesOn, BranchesOn, IsBehind, IsBody, GoesWay, IsBlockOf, IsBodyOf, IsFurther, AreMade, AreBlocksOf}
+use Rattle.whole_code.specs.Building.{Leads, GoesOn, BranchesOn, IsBehind, IsBody, GoesWay, IsFurther, AreMade, AreBlocksOf}
 use Rattle.whole_code.specs.Weight.{cost_behind, rest_at, rest_of}
-use Rattle.whole_code.proofs.Parts.{get_left, get_cases, get_contains, contains_get, get_only, same_got, IsRight}
+use Rattle.whole_code.proofs.Parts.{get_cases, get_contains, contains_get, get_only, same_got, IsRight}
 use Rattle.whole_code.proofs.WholeUnit.{place_of, place_at_block, further_there, numbers, index_is, block_of_address, further_within}
 
 -- what is known of the lists and the ways of a lifting

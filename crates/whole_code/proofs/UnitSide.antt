@@ -1,10 +1,10 @@
 -- What a unit does from within a block: it goes through the operations and leaves by the exit.
-use Rattle.std.proofs.Common.{◌≡◌, ◌⊎◌, ℕ, suc, zero, ◌+◌, ◌<◌, ◌≤◌, ◌==◌, Bool, true, false, cond, List, [], ◌∷◌, ◌++◌, length, Option, Some, None, Result, Ok, Err, refl, sym, ap, ◌∙◌, subst, subst₂, inl, inr, arith}
+use Rattle.std.proofs.Common.{◌≡◌, ◌⊎◌, ℕ, suc, ◌+◌, ◌<◌, ◌≤◌, ◌==◌, Bool, true, false, cond, List, [], ◌++◌, length, Option, Some, None, Ok, Err, refl, sym, ap, ◌∙◌, subst, subst₂, inl, inr, arith}
 use Rattle.std.specs.List.{slice_get}
 use Rattle.std.proofs.lemmas.List.{append-nil}
-use Rattle.x86_values.specs.Words.{word_of, known}
+use Rattle.x86_values.specs.Words.{known}
 use Rattle.x86_values.specs.WordLaws.{WordLaws}
-use Rattle.traces.specs.Trace.{Label, End, Outside, Stopped, Seen, seen, before, Move, Stand, Go, Halt, run}
+use Rattle.traces.specs.Trace.{Label, End, Outside, Stopped, seen, before, Move, Stand, Go, Halt, run}
 use Rattle.traces.specs.Steps.{Goes, Reaches, EndsFrom}
 use Rattle.traces.specs.RunLaws.{RunLaws}
 use Rattle.flag_ir.specs.declared.variable.Term.{Term}
@@ -14,10 +14,10 @@ use Rattle.flag_ir.specs.declared.block.Block.{Block}
 use Rattle.flag_ir.specs.declared.block.Exit.{Exit}
 use Rattle.flag_ir.specs.declared.block.Exit.TheVariants as exit
 use Rattle.flag_ir.specs.declared.procedure.Proc.{Proc}
-use Rattle.flag_ir.specs.Storage.{Frame, Storage, term_in}
+use Rattle.flag_ir.specs.Storage.{Storage, term_in}
 use Rattle.flag_ir.specs.Operations.{and_then, needed, performs, shown_by_all}
-use Rattle.flag_ir.specs.Entering.{CodeUnit, Onward, before_block, blocks_of, index_of_number, index_at, procedure_at, to_number, jump, jump_by, jump_with, leave}
-use Rattle.flag_ir.specs.UnitRun.{Point, Before, Within, UnitState, state_at, left_for, fresh, within, next}
+use Rattle.flag_ir.specs.Entering.{CodeUnit, before_block, blocks_of, index_of_number, index_at, procedure_at, to_number, jump, jump_by, jump_with, leave}
+use Rattle.flag_ir.specs.UnitRun.{Before, Within, UnitState, state_at, left_for, fresh, within, next}
 use Rattle.flag_ir.specs.UnitLaws.{UnitLaws}
 use Rattle.lift_core.specs.Whole.{LeadsTo, NumberLeadsTo, BranchesTo, OnlyJumps}
 

@@ -1,10 +1,9 @@
 -- The unit of the blocks that are made is that of the whole program.
-use Rattle.std.proofs.Common.{◌≡◌, ◌≢◌, ℕ, zero, suc, ◌+◌, ◌<◌, ◌⊎◌, ◌==◌, Bool, true, false, not, cond, ltb, List, [], ◌∷◌, ◌++◌, length, get_or, map, position, slice_get, Contains, Some, None, refl, sym, ap, ◌∙◌, subst, inl, inr, arith}
+use Rattle.std.proofs.Common.{◌≡◌, ◌≢◌, ℕ, zero, suc, ◌+◌, ◌<◌, ◌⊎◌, ◌==◌, Bool, true, false, not, cond, ltb, List, [], ◌∷◌, ◌++◌, length, get_or, position, slice_get, Contains, Some, None, refl, sym, ap, ◌∙◌, subst, inl, inr, arith}
 use Rattle.std.specs.List.{position_or_len}
 use Rattle.std.specs.List.Sorted.{IsStrictlyIncreasing}
 use Rattle.std.proofs.lemmas.Bool.{eq-eqb, ne_eqb, lt-ltb}
 use Rattle.std.proofs.lemmas.List.Kept.{AllPairs-from_increasing}
-use Rattle.std.proofs.lemmas.List.{length-map}
 use Rattle.std.proofs.lemmas.List.Sums.{prefix_len_is}
 use Rattle.std.proofs.lemmas.Option.{slice_get-map, slice_get_within, slice_get-get_or, get_or_from_slice_get}
 use Rattle.std.specs.Option.{option_map}
@@ -16,11 +15,10 @@ use Rattle.flag_ir.specs.Entering.{CodeUnit, index_of_number, index_at}
 use Rattle.plan_types.specs.declared.place.Place.{Place}
 use Rattle.plan_types.specs.Contents.{FoundContents}
 use Rattle.plan_types.specs.Ascending.{addresses_of}
-use Rattle.plan_types.specs.Body.{HasPlace}
 use Rattle.lift_core.specs.declared.way.Way.{Way}
 use Rattle.lift_core.specs.declared.way.Way.TheVariants as way
-use Rattle.lift_core.specs.Whole.{Lifting, IsNumbered, OnlyJumps, LeadsTo, NumberLeadsTo, BranchesTo, HasWay, HasBlock, IsWholeBy}
-use Rattle.whole_code.specs.Building.{IsJumpNumber, Leads, GoesOn, BranchesOn, GoesWay, IsBlockOf, IsFurther, AreMade, AreBlocksOf}
+use Rattle.lift_core.specs.Whole.{Lifting, IsNumbered, LeadsTo, NumberLeadsTo, BranchesTo, HasWay, HasBlock, IsWholeBy}
+use Rattle.whole_code.specs.Building.{Leads, GoesOn, BranchesOn, GoesWay, IsFurther, AreMade, AreBlocksOf}
 use Rattle.whole_code.proofs.Parts.{get_left, get_right, get_cases, get_contains, contains_get, IsRight}
 
 -- ---- lists

@@ -1,5 +1,5 @@
 -- Where found code stands. (own)
-use Rattle.std.specs.Prelude.{◌≢◌, ℕ, Contains}
+use Rattle.std.specs.Prelude.{◌≢◌, Contains}
 use Rattle.image.specs.declared.image.Image.{Image}
 use Rattle.image.specs.Wanted.{FitsWideRoom}
 use Rattle.plan_types.specs.declared.place.Place.{Place}

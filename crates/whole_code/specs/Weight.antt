@@ -1,6 +1,6 @@
 -- What a turn of the unit of a whole program takes: the longest list has 48 operations, and with its exit, the test of a repeat and a
 -- jump behind it 51 steps are the most. All of this is own.
-use Rattle.std.specs.Prelude.{◌≡◌, ℕ, ◌+◌, ◌≤◌, length, slice_get, All, Option, Some, None}
+use Rattle.std.specs.Prelude.{ℕ, ◌+◌, ◌≤◌, length, slice_get, All, Option, Some, None}
 use Rattle.flag_ir.specs.declared.block.Block.{Block}
 use Rattle.flag_ir.specs.declared.block.Exit.{Exit}
 use Rattle.flag_ir.specs.declared.block.Exit.TheVariants as exit

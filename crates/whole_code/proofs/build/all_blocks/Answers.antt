@@ -1,4 +1,4 @@
-use Rattle.std.proofs.Common.{◌≡◌, ℕ, ◌+◌, List, length, refl, ap, ◌∙◌, subst, arith}
+use Rattle.std.proofs.Common.{◌≡◌, ◌+◌, List, length, refl, ap, ◌∙◌, subst, arith}
 use Rattle.plan_types.specs.declared.place.Place.{Place}
 use Rattle.plan_types.specs.Contents.{FoundContents}
 use Rattle.whole_code.specs.Building.{lifting_of_places, AreMade}

@@ -1,4 +1,4 @@
-use Rattle.whole_code.proofs.Beside.{LawsBelow, whole_is_one_stack}
+use Rattle.whole_code.proofs.Beside.{whole_is_one_stack}
 use Rattle.whole_code.proofs.laws.one_stack_law.Goals as goal
 
 pub returns : goal.returns

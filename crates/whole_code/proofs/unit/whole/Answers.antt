@@ -1,4 +1,4 @@
-use Rattle.std.proofs.Common.{refl, ap, ◌∙◌, subst, sym, arith, List}
+use Rattle.std.proofs.Common.{refl, ◌∙◌, subst, sym, arith, List}
 use Rattle.flag_ir.specs.declared.block.Block.{Block}
 use Rattle.x86_code.specs.Code.{code_of}
 use Rattle.whole_code.specs.Building.{lifting_of_places, AreBlocksOf}
