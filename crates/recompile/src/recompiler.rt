@@ -7,7 +7,7 @@ use crate::placed::placed_code;
 use code_agreement::agreement_law;
 use code_discovery::{DiscoverError, discover};
 use code_layout::{Layout, lay};
-use code_text::has_room;
+use code_text::{form_laws, has_room};
 use image::Image;
 use laid_image::image_laws;
 use plan_types::found_laws;
@@ -24,6 +24,7 @@ pub fn recompile(alloc: Global, image: &Image) -> Result<Layout, DiscoverError>
     ensures { Recompiles image.now result }
 {
     agreement_law();
+    form_laws();
     image_laws();
     found_laws();
     code_laws();
