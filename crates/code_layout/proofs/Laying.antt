@@ -80,7 +80,7 @@ module _ (given : Given) (placed : Placed) (image : Image) (can : CanBeLaid plac
   new_code = code_of (new_image (old placed image can) (whole_pages (length code)) (in_pages code) words)
 
   module _ (low : cell < 4294967296) (is : code ≡ code_text l code_start cell image.entry (blocks placed image can)) (few : length code ≤ blocks_most (blocks placed image can) + 40)
-           (placed_there : ArePlacesOf (blocks placed image can) cell (span_start image.segments) (span_of_code image.segments) l) (table : AreTableWords l words) where
+      (placed_there : ArePlacesOf (blocks placed image can) cell (span_start image.segments) (span_of_code image.segments) l) (table : AreTableWords l words) where
     spelled : AreSpelled (blocks placed image can)
     spelled = given.spelled placed can.form
 

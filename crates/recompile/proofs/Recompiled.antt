@@ -118,7 +118,7 @@ module _ (given : Given) (image : Image) (found : FoundContents) (is_found : IsF
 
     module _ (source : FitsSourceRoom image.segments image.entry) (layout : Layout) (l : IsLayoutOf placed image layout) where
       module _ (others : List Segment) (held : List ℕ) (pages : HasPagesOf image.segments others) (bytes : HoldsBytes others)
-               (whole : length held % 4096 ≡ 0) (within : length held ≤ code_size l.parts) (small : All (λ b. b < 256) held) where
+          (whole : length held % 4096 ≡ 0) (within : length held ≤ code_size l.parts) (small : All (λ b. b < 256) held) where
         abbrev layers : Layers
         layers = record {
           image = image;

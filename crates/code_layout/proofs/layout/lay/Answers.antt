@@ -43,9 +43,9 @@ returns c =
       count = of_cell.count ∙ c.code_span-span.ensures.count;
       table = of_cell.table;
     } in
-    let text : c.in_ok-code.code.items ≡ code_text l code_start (esp_cell placed.homes) image.entry blocks = 
-        subst (λ (k : ℕ). c.in_ok-code.code.items ≡ code_text l code_start k image.entry blocks) cell
-        (subst (λ (e : ℕ). c.in_ok-code.code.items ≡ code_text l code_start c.esp_cell-cell.result e blocks) (ap (λ (i : Image). i.entry) c.image.view_is) c.in_ok-code.ensures.text) in
+    let text : c.in_ok-code.code.items ≡ code_text l code_start (esp_cell placed.homes) image.entry blocks =
+    subst (λ (k : ℕ). c.in_ok-code.code.items ≡ code_text l code_start k image.entry blocks) cell
+    (subst (λ (e : ℕ). c.in_ok-code.code.items ≡ code_text l code_start c.esp_cell-cell.result e blocks) (ap (λ (i : Image). i.entry) c.image.view_is) c.in_ok-code.ensures.text) in
     is_layout (record { spelled = c.form_laws.ensures; layable = c.form_laws-2.ensures; laid = c.layout_laws.ensures.laid; image = c.image_laws.ensures })
     placed image c.requires l c.in_ok-code.code.items c.words.result.now
     (subst (λ (k : ℕ). k < 4294967296) cell c.esp_cell-cell.type_inv) text c.in_ok-code.ensures.few of_span c.words.ensures
