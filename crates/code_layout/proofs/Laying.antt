@@ -120,6 +120,8 @@ module _ (given : Given) (placed : Placed) (image : Image) (can : CanBeLaid plac
       layable = given.layable placed can.form can.once;
       laid = both.0;
       begins = both.1;
+      text = is;
+      places = placed_there.places;
       span = placed_there.span;
       count = placed_there.count;
       words = table;

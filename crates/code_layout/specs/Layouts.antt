@@ -16,7 +16,8 @@ use Rattle.laid_code.specs.Laid.{Places, IsLaid, AreLayable}
 use Rattle.laid_code.specs.LaidRun.{HasAddressTable}
 use Rattle.laid_code.specs.Beginning.{Begins, CanBegin}
 use Rattle.code_text.specs.KeptPlaces.{code_start, AreTableWords}
-use Rattle.code_text.specs.Placing.{AreInSpan, blocks_most}
+use Rattle.code_text.specs.Placing.{AreInSpan, PlacesFrom, blocks_most}
+use Rattle.code_text.specs.Texts.{code_text}
 use Rattle.laid_image.specs.NewImage.{whole_pages, in_pages, new_segments, new_image, FitsSourceRoom, HasPagesOf}
 use Rattle.laid_image.specs.ImageLaws.{HoldsBytes, AreCells, esp_cell}
 use Rattle.code_layout.specs.declared.layout.Layout.{Layout}
@@ -63,6 +64,9 @@ pub record IsLaidOut (placed : Placed) (image : Image) (x : LaidParts) (code : C
   pub layable : AreLayable (placed_blocks placed)
   pub laid : IsLaid x.places code (placed_blocks placed)
   pub begins : Begins x.places code code_start (esp_cell placed.homes) image.entry
+  -- the code is the text of the blocks, which stand one behind the other
+  pub text : x.code ≡ code_text x.places code_start (esp_cell placed.homes) image.entry (placed_blocks placed)
+  pub places : PlacesFrom x.places code_start (esp_cell placed.homes) (placed_blocks placed)
   -- the span of the places is that of the old code, and the words of the table are their addresses
   pub span : x.places.span ≡ span_start image.segments
   pub count : x.places.count ≡ span_of_code image.segments

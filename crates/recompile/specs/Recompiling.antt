@@ -1,15 +1,16 @@
 -- What recompiling an image promises. All of this is own.
-use Rattle.std.specs.Prelude.{◌≡◌, ℕ, ◌%◌, ◌<◌, ◌≤◌, List, length, All, Result, Ok, Err}
+use Rattle.std.specs.Prelude.{◌≡◌, ℕ, ◌+◌, ◌%◌, ◌<◌, ◌≤◌, List, length, All, Result, Ok, Err}
 use Rattle.outside.specs.Environment.{Environment, IsEnvironment}
 use Rattle.traces.specs.Agree.{Agree}
 use Rattle.image.specs.declared.image.Segment.{Segment}
 use Rattle.image.specs.declared.image.Image.{Image}
-use Rattle.image.specs.Wanted.{image_with}
+use Rattle.image.specs.Wanted.{image_with, span_of_code}
 use Rattle.elf_writer.specs.Wanted.{CanBeWritten}
 use Rattle.memory.specs.Memory.{memory_of}
 use Rattle.x86_code.specs.Code.{Code, code_of}
 use Rattle.x86_meaning.specs.Run.{IsStart, start_over, run_from}
 use Rattle.plan_types.specs.Contents.{FoundContents}
+use Rattle.plan_types.specs.Body.{HasPlace}
 use Rattle.plan_types.specs.FoundCode.{IsFoundCode}
 use Rattle.code_discovery.specs.declared.discover_error.DiscoverError.{DiscoverError}
 use Rattle.code_discovery.specs.Discovery.{IsTooMuch}
@@ -26,11 +27,11 @@ use Rattle.name_cells.specs.Placing.{cells_of}
 use Rattle.name_cells.specs.PlacesCode.{PlacesCode}
 use Rattle.instr_choose.specs.Choosing.{Chooses}
 use Rattle.code_bounds.specs.Turns.{HasTurnBounds}
-use Rattle.code_text.specs.KeptPlaces.{code_start}
+use Rattle.code_text.specs.KeptPlaces.{code_start, AreTableWords}
 use Rattle.laid_image.specs.NewImage.{FitsSourceRoom, HasPagesOf}
 use Rattle.laid_image.specs.ImageLaws.{HoldsBytes}
 use Rattle.code_layout.specs.declared.layout.Layout.{Layout}
-use Rattle.code_layout.specs.Layouts.{LaidParts, code_size, laid_segments, held_memory}
+use Rattle.code_layout.specs.Layouts.{span_start, LaidParts, code_size, laid_segments, held_memory}
 
 -- ---- from found code to placed code
 pub record IsPlacedCodeOf (image : Image) (found : FoundContents) (placed : Placed) : Type 0 where
@@ -54,6 +55,16 @@ AgreesOver image found parts layout others held =
     Agree 4096 256 (cut_run_over (code_of image) found (memory_of (image_with others image.entry)) image.entry esp0 stack left)
     (run_from (code_of (image_with layout.segments layout.entry)) (start_over (held_memory others held parts) layout.entry esp0 stack left))
 
+-- ---- the address table: the word of an old address is a place in the new code where an instruction is found at that address, and else 0;
+-- those of two found addresses differ
+pub record HasFoundPlaces (image : Image) (found : FoundContents) (x : LaidParts) : Type 0 where
+  pub span : x.places.span ≡ span_start image.segments
+  pub count : x.places.count ≡ span_of_code image.segments
+  pub words : AreTableWords x.places x.words
+  pub found_there : (a : ℕ) → HasPlace found a → (code_start < x.places.by_address a) × (x.places.by_address a < code_start + length x.code)
+  pub none_there : (a : ℕ) → (HasPlace found a → ⊥) → x.places.by_address a ≡ 0
+  pub differ : (a b : ℕ) → HasPlace found a → HasPlace found b → x.places.by_address a ≡ x.places.by_address b → a ≡ b
+
 pub record IsRecompiled (image : Image) (layout : Layout) : Type 0 where
   pub found : FoundContents
   pub is_found : IsFoundCode image found
@@ -61,6 +72,7 @@ pub record IsRecompiled (image : Image) (layout : Layout) : Type 0 where
   pub segments : layout.segments ≡ laid_segments image.segments parts
   pub entry : layout.entry ≡ code_start
   pub can_be_written : CanBeWritten layout.segments layout.entry
+  pub table : HasFoundPlaces image found parts
   pub agrees : (others : List Segment) (held : List ℕ) → HasPagesOf image.segments others → HoldsBytes others → length held % 4096 ≡ 0 → length held ≤ code_size parts → All (λ b. b < 256) held →
       AgreesOver image found parts layout others held
 

@@ -7,12 +7,14 @@ use crate::placed::placed_code;
 use code_agreement::agreement_law;
 use code_discovery::{DiscoverError, discover};
 use code_layout::{Layout, lay};
-use code_text::{form_laws, has_room};
+use code_text::{form_laws, has_room, layout_laws};
 use image::Image;
 use laid_image::image_laws;
 use plan_types::found_laws;
 use std::alloc::Global;
+use whole_code::above_law;
 use x86_code::code_laws;
+use x86_encode::best_lengths;
 
 /// The segments of a new program for an image of the room of files that are rewritten, and where it begins: from every start, over every
 /// environment, it does what the program does up to where that leaves its found code, within 4,096 n + 256 steps for n of the program's,
@@ -25,6 +27,9 @@ pub fn recompile(alloc: Global, image: &Image) -> Result<Layout, DiscoverError>
 {
     agreement_law();
     form_laws();
+    layout_laws();
+    best_lengths();
+    above_law();
     image_laws();
     found_laws();
     code_laws();
